@@ -1,0 +1,10 @@
+pub mod Answers
+pub mod Blocks
+pub mod Causes
+pub mod FileMap
+pub mod Numbering
+pub mod Reading
+pub mod Storing
+pub mod Taking
+pub mod Telling
+pub mod Writing

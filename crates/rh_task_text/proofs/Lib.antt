@@ -1,0 +1,13 @@
+pub mod Spelling
+pub mod Gives
+pub mod Stating
+pub mod Below
+pub mod Joining
+pub mod Closing
+pub mod Begun
+pub mod Readings
+pub mod OneTask
+pub mod Judging
+pub mod Lawful
+pub mod Deciding
+pub mod Rows

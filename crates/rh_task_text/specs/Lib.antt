@@ -1,0 +1,9 @@
+pub mod Answering
+pub mod Forms
+pub mod Saying
+pub mod Blocks
+pub mod Limits
+pub mod Program
+pub mod Lines
+pub mod Reading
+pub mod Giving

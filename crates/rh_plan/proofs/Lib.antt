@@ -1,0 +1,17 @@
+pub mod FirstPlaces
+pub mod MapPlaces
+pub mod TaskLines
+pub mod Answering
+pub mod PlannedLines
+pub mod Places
+pub mod Growth
+pub mod Parts
+pub mod Adding
+pub mod Lines
+pub mod Counts
+pub mod Lawfulness
+pub mod Breaking
+pub mod Buffering
+pub mod Sounding
+pub mod Blocks
+pub mod WholeText

@@ -1,0 +1,11 @@
+pub mod Plans
+pub mod Bodies
+pub mod Lawful
+pub mod Above
+pub mod Nesting
+pub mod Rules
+pub mod Planned
+pub mod Buffers
+pub mod Results
+pub mod Indexing
+pub mod Tables

@@ -1,0 +1,5 @@
+pub mod Running
+pub mod Reporting
+pub mod Command
+pub mod Promise
+pub mod Ends

@@ -1,0 +1,11 @@
+pub mod LaneBalance
+pub mod LanesOfFluxes
+pub mod FluxBias
+pub mod BlocksOfFour
+pub mod LineWords
+pub mod RangeSums
+pub mod TelescopingSums
+pub mod LineKeepsSum
+pub mod RowFluxes
+pub mod RowWords
+pub mod GridKeepsSum

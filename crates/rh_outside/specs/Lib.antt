@@ -1,10 +1,8 @@
-pub mod Answers
-pub mod Blocks
-pub mod Causes
+pub mod Counts
+pub mod States
+pub mod Sinks
+pub mod Shelves
 pub mod FileMap
-pub mod Numbering
-pub mod Reading
-pub mod Storing
-pub mod Taking
-pub mod Telling
-pub mod Writing
+pub mod FileBlocks
+pub mod MemoryStores
+pub mod MemoryOutputs

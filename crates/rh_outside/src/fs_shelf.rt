@@ -1,16 +1,18 @@
 //! Real files.
 
-ghost use Rattle.std.specs.Prelude.{◌≡◌, ◌≢◌, ◌≤◌, ◌<◌, [], None, length, IfSome};
-ghost use Rattle.rh_outside.specs.Causes.{Rose, no_failures};
-ghost use Rattle.rh_outside.specs.Reading.{failed_reads_after};
-ghost use Rattle.rh_outside.specs.Writing.{failed_writes_after};
+ghost use Rattle.std.specs.Prelude.{◌≡◌, ◌≤◌, ◌<◌, [], length, IfSome};
+ghost use Rattle.std.specs.Io.KnownBytes.{Appends};
+ghost use Rattle.rh_outside.specs.Counts.{no_failures};
+ghost use Rattle.rh_outside.specs.MemoryStores.{failed_reads_after, failed_writes_after};
+ghost use Rattle.rh_outside.specs.States.{KeepsCounts, untold};
+ghost use Rattle.rh_outside.specs.Shelves.{Reads, Writes};
 
 use crate::count::Count;
 use crate::shelf::{ReadAnswer, Shelf};
 use crate::sink::WriteAnswer;
 use rh_words::Bytes;
 use std::fs;
-use std::io::Read;
+use std::io::{Read, Write};
 use std::marker::Model;
 use std::rt::Files;
 
@@ -23,7 +25,7 @@ pub struct FsShelf<'a, R: Files> {
 }
 
 impl<'a, R: Files> Model for FsShelf<'a, R> {
-    ghost use Rattle.rh_outside.specs.Causes.{FailureCounts};
+    ghost use Rattle.rh_outside.specs.Counts.{FailureCounts};
 
     ghost Value = { FailureCounts };
 
@@ -44,24 +46,17 @@ impl<'a, R: Files> FsShelf<'a, R> {
 }
 
 impl<'a, R: Files> Shelf for FsShelf<'a, R> {
-    ghost file = { λ _ _. None };
-
-    ghost failed_reads = { λ s _. s.failed_reads };
-
-    ghost failed_writes = { λ s _. s.failed_writes };
+    ghost state = { untold };
 
     fn read(&mut self, name: &str, limit: usize, into: &mut Bytes) -> ReadAnswer
         ensures counted { self.new.failed_reads ≡ failed_reads_after self.old.failed_reads result }
         ensures writes { self.new.failed_writes ≡ self.old.failed_writes }
-        ensures writes_later { self.old.failed_writes ≤ self.new.failed_writes }
-        ensures later { self.old.failed_reads ≤ self.new.failed_reads }
-        ensures failed { result ≡ ReadAnswer.Failed → Rose self.old.failed_reads self.new.failed_reads }
-        ensures within { length into.new ≤ limit }
-        ensures empty { result ≢ ReadAnswer.Ok → into.new ≡ [] }
+        ensures counts { KeepsCounts (untold self.old) (untold self.new) }
+        ensures answer { Reads (untold self.old) (untold self.new) name.now limit into.new result }
     {
         into.clear();
         let answer = match fs::open(self.rt, name) {
-            Ok(mut file) => read_all(&mut file, limit, into),
+            Ok(mut file) => read_file(&mut file, limit, into),
             Err(_) => ReadAnswer::Failed,
         };
         if answer != ReadAnswer::Ok {
@@ -76,23 +71,33 @@ impl<'a, R: Files> Shelf for FsShelf<'a, R> {
     fn write(&mut self, name: &str, bytes: &[u8]) -> WriteAnswer
         ensures counted { self.new.failed_writes ≡ failed_writes_after self.old.failed_writes result }
         ensures reads { self.new.failed_reads ≡ self.old.failed_reads }
-        ensures reads_later { self.old.failed_reads ≤ self.new.failed_reads }
-        ensures later { self.old.failed_writes ≤ self.new.failed_writes }
-        ensures failed { result ≡ WriteAnswer.Failed → Rose self.old.failed_writes self.new.failed_writes }
+        ensures counts { KeepsCounts (untold self.old) (untold self.new) }
+        ensures answer { Writes (untold self.old) (untold self.new) name.now bytes.now result }
     {
-        match fs::write(self.rt, name, bytes) {
-            Ok(()) => WriteAnswer::Ok,
-            Err(_) => {
-                self.failed_writes.rise();
-                WriteAnswer::Failed
-            }
+        let answer = match fs::create(self.rt, name) {
+            Ok(mut file) => write_file(&mut file, bytes),
+            Err(_) => WriteAnswer::Failed,
+        };
+        if answer == WriteAnswer::Failed {
+            self.failed_writes.rise();
         }
+        answer
+    }
+}
+
+/// Writes all the bytes to a file that was just made empty.
+fn write_file<F: Write>(file: &mut F, bytes: &[u8]) -> WriteAnswer
+    ensures { result ≡ WriteAnswer.Ok → Appends (F.contents file.old) (F.contents file.new) bytes.now }
+{
+    match file.write_all(bytes) {
+        Ok(()) => WriteAnswer::Ok,
+        Err(_) => WriteAnswer::Failed,
     }
 }
 
 /// Reads all of a file into an empty buffer, where it has at most `limit` bytes. Each turn takes a byte at least, or is
 /// the last; a byte beyond the limit tells that there are too many.
-fn read_all<F: Read>(file: &mut F, limit: usize, into: &mut Bytes) -> ReadAnswer
+fn read_file<F: Read>(file: &mut F, limit: usize, into: &mut Bytes) -> ReadAnswer
     requires { into.old ≡ [] }
     ensures ok { result ≡ ReadAnswer.Ok → IfSome (F.remaining file.old) (λ bytes. into.new ≡ bytes) }
     ensures too_long { result ≡ ReadAnswer.TooLong

@@ -2,17 +2,13 @@
 
 ghost use Rattle.std.specs.Prelude.{◌≡◌, ◌≢◌, ◌≤◌, ◌<◌, ℕ, List, Some, [], ◌∷◌, length, IfOk, OnOk, OnErr};
 ghost use Rattle.std.specs.Option.{option_copied};
-ghost use Rattle.rh_outside.specs.Causes.{Rose};
 ghost use Rattle.rh_outside.specs.FileMap.{file_of, with_file};
-ghost use Rattle.rh_outside.specs.Numbering.{with_failing};
-ghost use Rattle.rh_outside.specs.Reading.{IsReadAnswer, length_answer, read_answer, after_read};
-ghost use Rattle.rh_outside.specs.Storing.{new_store};
-ghost use Rattle.rh_outside.specs.Telling.{WhereTold};
-ghost use Rattle.rh_outside.specs.Writing.{write_answer, after_write};
+ghost use Rattle.rh_outside.specs.Counts.{with_failing};
+ghost use Rattle.rh_outside.specs.MemoryStores.{new_store, IsReadAnswer, length_answer, read_answer, after_read, write_answer, after_write};
 
-use crate::calls::Calls;
 use crate::count::Count;
-use crate::held::HeldFiles;
+use crate::failing_calls::FailingCalls;
+use crate::file_block::FileBlock;
 use crate::shelf::{ReadAnswer, Shelf};
 use crate::sink::WriteAnswer;
 use rh_words::{Bytes, OutOfMemory};
@@ -22,20 +18,20 @@ use std::marker::Model;
 /// A file store in memory, of which chosen calls fail. Its writes take no memory: they fill the room that `new` reserved.
 #[derive(Drop)]
 pub struct MemShelf {
-    held: HeldFiles,
-    calls: Calls,
+    files: FileBlock,
+    calls: FailingCalls,
     failed_reads: Count,
     failed_writes: Count,
 }
 
 impl Model for MemShelf {
-    ghost use Rattle.rh_outside.specs.Storing.{Store};
+    ghost use Rattle.rh_outside.specs.MemoryStores.{Store};
 
     ghost Value = { Store };
 
     ghost view = { λ s. record {
-      files = s.held.files;
-      room = s.held.room;
+      files = s.files.files;
+      room = s.files.room;
       calls = s.calls;
       failed_reads = s.failed_reads;
       failed_writes = s.failed_writes;
@@ -48,8 +44,8 @@ impl MemShelf {
         ensures { IfOk result (λ store. store ≡ new_store room) }
     {
         Ok(MemShelf {
-            held: HeldFiles::new(alloc, room)?,
-            calls: Calls::new(alloc),
+            files: FileBlock::new(alloc, room)?,
+            calls: FailingCalls::new(alloc),
             failed_reads: Count::new(),
             failed_writes: Count::new(),
         })
@@ -61,7 +57,7 @@ impl MemShelf {
             (self.new ≡ record self.old { files = with_file name.now bytes.now self.old.files }) }
         ensures err { OnErr result (self.new ≡ self.old) }
     {
-        self.held.hold(name.as_bytes(), bytes)
+        self.files.hold(name.as_bytes(), bytes)
     }
 
     /// Lets the call of this number fail. Reads and writes are numbered together, from 0.
@@ -77,16 +73,14 @@ impl MemShelf {
     pub fn file(&self, name: &str) -> Option<&[u8]>
         ensures { option_copied result ≡ file_of name.now self.now.files }
     {
-        self.held.get(name.as_bytes())
+        self.files.get(name.as_bytes())
     }
 }
 
 impl Shelf for MemShelf {
-    ghost file = { λ s n. Some (file_of n s.files) };
+    ghost use Rattle.rh_outside.specs.States.{StoreState};
 
-    ghost failed_reads = { λ s _. s.failed_reads };
-
-    ghost failed_writes = { λ s _. s.failed_writes };
+    ghost state = { λ s. record { file = λ n. Some (file_of n s.files); failed_reads = λ _. s.failed_reads; failed_writes = λ _. s.failed_writes } };
 
     fn read(&mut self, name: &str, limit: usize, into: &mut Bytes) -> ReadAnswer
         ensures answer { IsReadAnswer result (read_answer self.old name.now limit) }
@@ -101,11 +95,11 @@ impl Shelf for MemShelf {
             self.failed_reads.rise();
             return ReadAnswer::Failed;
         }
-        let Some(bytes) = self.held.get(name.as_bytes()) else {
+        let Some(bytes) = self.files.get(name.as_bytes()) else {
             self.failed_reads.rise();
             return ReadAnswer::Failed;
         };
-        give(bytes, limit, into)
+        read_into(bytes, limit, into)
     }
 
     fn write(&mut self, name: &str, bytes: &[u8]) -> WriteAnswer
@@ -119,17 +113,17 @@ impl Shelf for MemShelf {
             self.failed_writes.rise();
             return WriteAnswer::Failed;
         }
-        if self.held.room() < name.len() + bytes.len() + 1 {
+        if self.files.room() < name.len() + bytes.len() + 1 {
             self.failed_writes.rise();
             return WriteAnswer::Failed;
         }
-        self.held.put(name.as_bytes(), bytes);
+        self.files.put(name.as_bytes(), bytes);
         WriteAnswer::Ok
     }
 }
 
 /// Puts a file into an empty buffer, where it has at most `limit` bytes.
-pub(crate) fn give(bytes: &[u8], limit: usize, into: &mut Bytes) -> ReadAnswer
+pub(crate) fn read_into(bytes: &[u8], limit: usize, into: &mut Bytes) -> ReadAnswer
     requires { into.old ≡ [] }
     ensures answer { IsReadAnswer result (length_answer bytes.now limit) }
     ensures ok { result ≡ ReadAnswer.Ok → into.new ≡ bytes.now }

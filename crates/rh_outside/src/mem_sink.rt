@@ -1,11 +1,11 @@
 //! An output in memory.
 
 ghost use Rattle.std.specs.Prelude.{◌≡◌, ◌≤◌, ◌<◌, IfOk, OnOk, OnErr};
-ghost use Rattle.rh_outside.specs.Numbering.{with_failing};
-ghost use Rattle.rh_outside.specs.Taking.{new_output, took_answer, after_took};
+ghost use Rattle.rh_outside.specs.Counts.{with_failing};
+ghost use Rattle.rh_outside.specs.MemoryOutputs.{new_output, took_answer, after_took};
 
-use crate::calls::Calls;
 use crate::count::Count;
+use crate::failing_calls::FailingCalls;
 use crate::sink::{Sink, TookAnswer};
 use rh_words::OutOfMemory;
 use std::alloc::Global;
@@ -16,13 +16,13 @@ use std::marker::Model;
 pub struct MemSink {
     taken: Vec<u8>,
     room: usize,
-    calls: Calls,
-    faults: Count,
+    calls: FailingCalls,
+    failed_writes: Count,
 }
 
 impl Model for MemSink {
     ghost use Rattle.std.specs.Prelude.{◌≤◌, ◌+◌, vec_len, vec_capacity};
-    ghost use Rattle.rh_outside.specs.Taking.{Output};
+    ghost use Rattle.rh_outside.specs.MemoryOutputs.{Output};
 
     ghost Value = { Output };
 
@@ -30,7 +30,7 @@ impl Model for MemSink {
       taken = s.taken.items;
       room = s.room;
       calls = s.calls;
-      faults = s.faults;
+      failed_writes = s.failed_writes;
     } };
 
     ghost invariant = { λ s. vec_len s.taken + s.room ≤ vec_capacity s.taken };
@@ -44,8 +44,8 @@ impl MemSink {
         Ok(MemSink {
             taken: Vec::with_capacity(alloc, room)?,
             room,
-            calls: Calls::new(alloc),
-            faults: Count::new(),
+            calls: FailingCalls::new(alloc),
+            failed_writes: Count::new(),
         })
     }
 
@@ -69,21 +69,19 @@ impl MemSink {
 impl Sink for MemSink {
     ghost use Rattle.std.specs.Prelude.{Some};
 
-    ghost taken = { λ s. Some s.taken };
-
-    ghost faults = { λ s. s.faults };
+    ghost state = { λ s. record { taken = Some s.taken; failed_writes = s.failed_writes } };
 
     fn write(&mut self, bytes: &[u8]) -> TookAnswer
         ensures answer { result ≡ took_answer self.old bytes.now }
         ensures after { self.new ≡ after_took self.old bytes.now result }
-        ensures later { self.old.faults ≤ self.new.faults }
+        ensures count { self.old.failed_writes ≤ self.new.failed_writes }
     {
         if self.calls.next_fails() {
-            self.faults.rise();
+            self.failed_writes.rise();
             return TookAnswer::Failed;
         }
         if !bytes.is_empty() && self.room == 0 {
-            self.faults.rise();
+            self.failed_writes.rise();
             return TookAnswer::Failed;
         }
         let count = bytes.len().min(self.room);

@@ -3,10 +3,10 @@
 ghost use Rattle.std.specs.Prelude.{◌≡◌, ◌≢◌, ◌≤◌, ◌<◌, ℕ, List, Some, None, [], ◌∷◌, length, unwrap_or, OnOk, OnErr};
 ghost use Rattle.std.specs.Option.{option_map};
 ghost use Rattle.rh_outside.specs.FileMap.{file_of, with_file, without_file};
-ghost use Rattle.rh_outside.specs.Reading.{IsReadAnswer, length_answer};
+ghost use Rattle.rh_outside.specs.MemoryStores.{IsReadAnswer, length_answer};
 
-use crate::held::HeldFiles;
-use crate::mem_shelf::give;
+use crate::file_block::FileBlock;
+use crate::mem_shelf::read_into;
 use crate::shelf::{ReadAnswer, Shelf};
 use crate::sink::{Sink, TookAnswer, WriteAnswer};
 use rh_words::{Bytes, OutOfMemory};
@@ -17,7 +17,7 @@ use std::marker::Model;
 /// and a name that is not there reads as an empty file.
 #[derive(Drop)]
 pub struct NeverFails {
-    held: HeldFiles,
+    files: FileBlock,
 }
 
 impl Model for NeverFails {
@@ -26,7 +26,7 @@ impl Model for NeverFails {
 
     ghost Value = { List NamedFile };
 
-    ghost view = { λ s. s.held.files };
+    ghost view = { λ s. s.files.files };
 }
 
 impl NeverFails {
@@ -35,7 +35,7 @@ impl NeverFails {
         ensures { result ≡ [] }
     {
         NeverFails {
-            held: HeldFiles::empty(alloc),
+            files: FileBlock::empty(alloc),
         }
     }
 
@@ -44,17 +44,14 @@ impl NeverFails {
         ensures ok { OnOk result (self.new ≡ with_file name.now bytes.now self.old) }
         ensures err { OnErr result (self.new ≡ self.old) }
     {
-        self.held.hold(name.as_bytes(), bytes)
+        self.files.hold(name.as_bytes(), bytes)
     }
 }
 
 impl Shelf for NeverFails {
-    /// The files that it holds, and nothing of other names.
-    ghost file = { λ s n. option_map (λ bytes. Some bytes) (file_of n s) };
+    ghost use Rattle.rh_outside.specs.States.{StoreState};
 
-    ghost failed_reads = { λ _ _. 0 };
-
-    ghost failed_writes = { λ _ _. 0 };
+    ghost state = { λ s. record { file = λ n. option_map (λ bytes. Some bytes) (file_of n s); failed_reads = λ _. 0; failed_writes = λ _. 0 } };
 
     fn read(&mut self, name: &str, limit: usize, into: &mut Bytes) -> ReadAnswer
         ensures answer { IsReadAnswer result (length_answer (unwrap_or (file_of name.now self.old) []) limit) }
@@ -64,7 +61,7 @@ impl Shelf for NeverFails {
         ensures empty { result ≢ ReadAnswer.Ok → into.new ≡ [] }
     {
         into.clear();
-        give(self.held.get(name.as_bytes()).unwrap_or(&[]), limit, into)
+        read_into(self.files.get(name.as_bytes()).unwrap_or(&[]), limit, into)
     }
 
     fn write(&mut self, name: &str, _bytes: &[u8]) -> WriteAnswer
@@ -73,15 +70,13 @@ impl Shelf for NeverFails {
         ensures told { file_of name.now self.new ≡ None }
         ensures others { (n : List ℕ) → n ≢ name.now → file_of n self.new ≡ file_of n self.old }
     {
-        self.held.remove(name.as_bytes());
+        self.files.remove(name.as_bytes());
         WriteAnswer::Ok
     }
 }
 
 impl Sink for NeverFails {
-    ghost taken = { λ _. None };
-
-    ghost faults = { λ _. 0 };
+    ghost state = { λ _. record { taken = None; failed_writes = 0 } };
 
     fn write(&mut self, bytes: &[u8]) -> TookAnswer
         ensures took { result ≡ TookAnswer.Ok (length bytes.now) }

@@ -1,47 +1,44 @@
 //! Places to write to.
 
-ghost use Rattle.std.specs.Prelude.{◌≡◌, ℕ, ◌≤◌, ◌<◌, List, Option, length, take};
-ghost use Rattle.rh_outside.specs.Causes.{Rose};
-ghost use Rattle.rh_outside.specs.Answers.{MatchTook};
-ghost use Rattle.std.specs.Io.KnownBytes.{Appends, Keeps};
-ghost use Rattle.rh_outside.specs.Telling.{AppendsFront};
+ghost use Rattle.std.specs.Prelude.{◌≡◌, ◌≤◌};
+ghost use Rattle.rh_outside.specs.States.{OutputState, Takes, BreaksOff};
+ghost use Rattle.rh_outside.specs.Sinks.{TakesPiece};
 
-/// What the write of a piece answered: how many of its bytes were taken, from its front.
-#[derive(Clone, Copy, Debug, PartialEq, Eq)]
+/// What the write of a piece answered.
+#[derive(Clone, Copy, PartialEq, Eq)]
 pub enum TookAnswer {
+    /// So many bytes were taken, from the front of the piece.
     Ok(usize),
+    /// Nothing was taken.
     Failed,
 }
 
 /// What a whole write answered.
-#[derive(Clone, Copy, Debug, PartialEq, Eq)]
+#[derive(Clone, Copy, PartialEq, Eq)]
 pub enum WriteAnswer {
+    /// All bytes were written.
     Ok,
+    /// The write failed, at its begin or in the middle.
     Failed,
 }
 
 /// A place that takes bytes.
 pub trait Sink {
-    /// The bytes that were taken, where they are told.
-    ghost taken: { Self → Option (List ℕ) };
-
-    /// How many writes have failed.
-    ghost faults: { Self → ℕ };
+    /// The bytes that were taken, where they are told, and how many writes failed.
+    ghost state: { Self → OutputState };
 
     /// Takes bytes from the front of a piece, at least one where it has any.
     fn write(&mut self, bytes: &[u8]) -> TookAnswer
-        ensures later { faults self.old ≤ faults self.new }
-        ensures answer { MatchTook result
-            (λ n. (n ≤ length bytes.now) × (0 < length bytes.now → 0 < n) × Appends (taken self.old) (taken self.new) (take n bytes.now))
-            (Rose (faults self.old) (faults self.new) × Keeps (taken self.old) (taken self.new)) };
+        ensures count { (state self.old).failed_writes ≤ (state self.new).failed_writes }
+        ensures answer { TakesPiece (state self.old) (state self.new) bytes.now result };
 }
 
-/// Writes all the bytes.
+/// Writes all the bytes, in as many pieces as the output asks for.
 pub fn write_all<O: Sink>(out: &mut O, bytes: &[u8]) -> WriteAnswer
-    ensures later { O.faults out.old ≤ O.faults out.new }
-    ensures ok { result ≡ WriteAnswer.Ok → Appends (O.taken out.old) (O.taken out.new) bytes.now }
-    ensures failed { result ≡ WriteAnswer.Failed → Rose (O.faults out.old) (O.faults out.new) }
-    ensures front { AppendsFront (O.taken out.old) (O.taken out.new) bytes.now }
+    ensures count { (O.state out.old).failed_writes ≤ (O.state out.new).failed_writes }
+    ensures ok { result ≡ WriteAnswer.Ok → Takes (O.state out.old) (O.state out.new) bytes.now }
+    ensures failed { result ≡ WriteAnswer.Failed
+        → BreaksOff (O.state out.old) (O.state out.new) bytes.now }
 {
     let mut at = 0;
     while at < bytes.len() {

@@ -1,30 +1,58 @@
 -- A plan as data: lists of nodes, promises and edges, each by its number.
-use Rattle.std.specs.Prelude.{ℕ, ◌+◌, List, [], ◌∷◌, ◌++◌, Option, Some, map, unwrap_or, slice_get, option_and_then}
-use Rattle.rh_plan.specs.declared.node.Node.{Node}
-use Rattle.rh_plan.specs.declared.node.PlannedPromise.{PlannedPromise}
-use Rattle.rh_plan.specs.declared.node.Edge.{Edge}
+use Rattle.std.specs.Prelude.{ℕ, ◌≡◌, ◌+◌, List, [], ◌∷◌, ◌++◌, Some, None, map, unwrap_or, slice_get, option_to_list}
+use Rattle.rh_rules.specs.declared.node.Kind.{Kind}
+use Rattle.rh_rules.specs.declared.node.Kind.TheVariants.{Task, Group, Scope}
+use Rattle.rh_rules.specs.declared.node.Node.{Node}
+use Rattle.rh_rules.specs.declared.node.PlannedPromise.{PlannedPromise}
+use Rattle.rh_rules.specs.Lawful.{putter_of}
+use Rattle.rh_plan.specs.declared.edge.Edge.{Edge}
 
+-- a matrix: how many columns it has, and of each row the columns and values of its entries
+pub record MatrixData : Type 0 where
+  pub cols : ℕ
+  pub rows : List (List (ℕ × ℕ))
+
+-- All else that is said of a plan follows from these lists.
 pub record PlanData : Type 0 where
   pub nodes : List Node
   pub promises : List PlannedPromise
   pub edges : List Edge
+  pub matrices : List MatrixData
 
-abbrev pub plan_data : List Node → List PlannedPromise → List Edge → PlanData
-plan_data nodes promises edges = record { nodes = nodes; promises = promises; edges = edges }
+-- P holds of the node of this number, where there is one
+abbrev pub OfNode : PlanData → ℕ → (Node → Type 0) → Type 0
+OfNode plan v P = (node : Node) → slice_get plan.nodes v ≡ Some node → P node
 
--- how many words each promise has
-abbrev pub promise_lens : List PlannedPromise → List ℕ
-promise_lens promises = map (λ p. p.len) promises
+-- P holds of the promise of this number, where there is one
+abbrev pub OfPromise : PlanData → ℕ → (PlannedPromise → Type 0) → Type 0
+OfPromise plan q P = (promise : PlannedPromise) → slice_get plan.promises q ≡ Some promise → P promise
 
--- the node that puts a promise, where there is one
-abbrev pub putter_of : List PlannedPromise → ℕ → Option ℕ
-putter_of promises q = option_and_then (λ p. p.putter) (slice_get promises q)
+-- the edge on which the node v takes a promise that it awaits
+abbrev pub await_edge : List PlannedPromise → ℕ → ℕ → Edge
+await_edge promises v q = record { from = unwrap_or (putter_of promises q) 0; to = v; promise = Some q }
 
--- the edge on which a node takes an awaited promise
-abbrev pub edge_into : List PlannedPromise → ℕ → ℕ → Edge
-edge_into promises v q = record { from = unwrap_or (putter_of promises q) 0; to = v; promise = Some q }
+-- the edge on which the node v learns how the node u ended
+abbrev pub order_edge : ℕ → ℕ → Edge
+order_edge v u = record { from = u; to = v; promise = None }
 
--- The edges into the nodes of a list, the first of which has this number: node by node, and in the await order of each.
+-- the edges into a task or a group: those of its awaits, then that of its innermost enclosing group
+abbrev pub start_edges : List PlannedPromise → ℕ → Node → List Edge
+start_edges promises v node = map (await_edge promises v) node.awaits ++ map (order_edge v) (option_to_list node.group)
+
+-- The edges into a node, by its kind. Those into a scope come from its members.
+abbrev pub edges_into_kind : List PlannedPromise → ℕ → Node → Kind → List Edge
+edges_into_kind promises v node Task = start_edges promises v node
+edges_into_kind promises v node Group = start_edges promises v node
+edges_into_kind promises v node Scope = map (order_edge v) node.members
+
+abbrev pub edges_into : List PlannedPromise → ℕ → Node → List Edge
+edges_into promises v node = edges_into_kind promises v node node.kind
+
+-- The edges into the nodes of a list, the first of which has this number, node by node.
 abbrev pub edges_from : List PlannedPromise → ℕ → List Node → List Edge
 edges_from promises v [] = []
-edges_from promises v (node ∷ nodes) = map (edge_into promises v) node.awaits ++ edges_from promises (v + 1) nodes
+edges_from promises v (node ∷ nodes) = edges_into promises v node ++ edges_from promises (v + 1) nodes
+
+-- the plan of these parts, which has no matrices yet
+abbrev pub plan_data : List Node → List PlannedPromise → List Edge → PlanData
+plan_data nodes promises edges = record { nodes = nodes; promises = promises; edges = edges; matrices = [] }

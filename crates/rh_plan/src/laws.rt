@@ -1,49 +1,66 @@
-//! What holds of every list of items, whoever plans it.
+//! What holds of every plan, whoever runs it.
 
-ghost use Rattle.std.specs.Prelude.{◌≡◌, ◌≤◌, ◌⊎◌, ◌∷◌, ◌++◌, ℕ, List, Some, length, slice_get, slice_index, IsSomeAnd};
-ghost use Rattle.std.specs.List.{AllByRecursion};
-ghost use Rattle.rh_plan.specs.declared.node.Node.{Node};
-ghost use Rattle.rh_task_text.specs.declared.statement.Item.{Item};
-ghost use Rattle.rh_task_text.specs.Program.{ProgramText, IsLawfulText, AscendFrom, upward};
-ghost use Rattle.rh_plan.specs.Plans.{PlanData, promise_lens};
-ghost use Rattle.rh_plan.specs.Results.{value_in, results};
+ghost use Rattle.std.specs.Prelude.{◌≡◌, ◌⊎◌, ℕ, List};
+ghost use Rattle.rh_words.specs.declared.reason.Reason.{Reason};
+ghost use Rattle.rh_task_text.specs.Program.{ProgramText};
+ghost use Rattle.rh_planner.specs.Planned.{FirstBreak};
+ghost use Rattle.rh_injector.specs.declared.faults.Strike.{Strike};
+ghost use Rattle.rh_plan.specs.Plans.{PlanData};
+ghost use Rattle.rh_plan.specs.Planned.{IsPlanOf};
 ghost use Rattle.rh_plan.specs.Lawful.{IsLawfulPlan};
-ghost use Rattle.rh_plan.specs.Rules.{KeepsRules};
-ghost use Rattle.rh_plan.specs.Planned.{Planned, FirstBreak};
+ghost use Rattle.rh_plan.specs.Altered.{SummedTasksReplayWithin};
+ghost use Rattle.rh_plan.specs.Budgets.{BudgetsAreKept, HasFaultFreeValues};
+ghost use Rattle.rh_plan.specs.Followed.{AcceptedBuffersFollowBodies};
+ghost use Rattle.rh_plan.specs.PlanTexts.{PlansSayTheirTexts};
+ghost use Rattle.rh_plan.specs.Tried.{FewTrials};
+ghost use Rattle.rh_plan.specs.Values.{ResultsRestOnLower, UnskippedTasksAreReady};
 
-/// A text has one plan at most.
-pub fn a_text_has_one_plan()
-    ensures { (items : List Item) (plan other : PlanData) → Planned items plan → Planned items other → plan ≡ other }
+/// A plan says its text: the `promise` lines are its promises, and the other lines are those of its nodes' tasks, one by one, where the
+/// numbers of promises and locals are read by their names.
+pub fn plans_say_their_texts()
+    ensures { PlansSayTheirTexts }
 {}
 
-/// A text that is planned breaks no rule.
-pub fn planned_texts_break_no_rule()
-    ensures { (items : List Item) (plan : PlanData) (line : ℕ) → Planned items plan → FirstBreak items line → ⊥ }
+/// The result of a node is what the results of the lower nodes give it, whatever higher nodes there are.
+pub fn results_rest_on_lower()
+    ensures { ResultsRestOnLower }
 {}
 
-/// Two first breaks of a text have one line.
-pub fn a_text_has_one_first_break()
-    ensures { (items : List Item) (line other : ℕ) → FirstBreak items line → FirstBreak items other → line ≡ other }
+/// A task that is not skipped awaits values that are there, as many words as their promises have, and its body is sound on them.
+pub fn unskipped_tasks_are_ready()
+    ensures { UnskippedTasksAreReady }
 {}
 
-/// Each text has a plan or a first break.
-pub fn each_text_has_a_plan_or_a_first_break()
-    ensures { (items : List Item) → ((plan : PlanData) × Planned items plan) ⊎ ((line : ℕ) × FirstBreak items line) }
+/// A node ends as in the run without faults, with its fault-free values, where it and all that it depends on are within their fault budgets.
+pub fn budgets_are_kept()
+    ensures { BudgetsAreKept }
 {}
 
-/// Where the lines ascend, the first break has the least line that breaks a rule, given those before it.
-pub fn the_first_break_has_the_least_line()
-    ensures { (items : List Item) (least line : ℕ) → AscendFrom least items → FirstBreak items line →
-        (before : List Item) (item : Item) (after : List Item) → items ≡ before ++ item ∷ after → (KeepsRules (upward before) item.statement → ⊥) → line ≤ item.line }
+/// Each promise whose putter and all that it depends on keep within their fault budgets has its fault-free value.
+pub fn values_are_fault_free()
+    ensures { (plan : PlanData) → IsLawfulPlan plan → (faults : List Strike) → HasFaultFreeValues plan faults }
 {}
 
-/// The plan of a lawful text is lawful.
-pub fn plans_of_lawful_texts_are_lawful()
-    ensures { (text : ProgramText) (plan : PlanData) → IsLawfulText text → Planned text.items plan → IsLawfulPlan plan }
+/// A replayed task keeps within its budget where a check of a sum reads each word that its faults alter, one word an attempt.
+pub fn summed_tasks_replay_within()
+    ensures { SummedTasksReplayWithin }
 {}
 
-/// In a lawful plan the value of each awaited promise is there before the node that awaits it, with as many words as the promise.
-pub fn awaited_promises_have_values()
-    ensures { (plan : PlanData) → IsLawfulPlan plan → (v : ℕ) (node : Node) → slice_get plan.nodes v ≡ Some node →
-        AllByRecursion (λ q. IsSomeAnd (value_in plan (results plan v) q) (λ w. length w ≡ slice_index (promise_lens plan.promises) q)) node.awaits }
+/// Every accepted buffer drops what its task's body drops, and puts to no promise more often than the body does.
+pub fn accepted_buffers_follow_bodies()
+    ensures { AcceptedBuffersFollowBodies }
+{}
+
+/// No node has more than 9 trials.
+pub fn few_trials()
+    ensures { FewTrials }
+{}
+
+/// Each text has a plan or a first break, never both, and one plan at most.
+pub fn a_text_has_a_plan_or_a_first_break()
+    ensures either { (text : ProgramText)
+        → ((plan : PlanData) × IsPlanOf text plan) ⊎ ((line : ℕ) × (reason : Reason) × FirstBreak text line reason) }
+    ensures never_both { (text : ProgramText) (plan : PlanData) (line : ℕ) (reason : Reason)
+        → IsPlanOf text plan → FirstBreak text line reason → ⊥ }
+    ensures one_plan { (text : ProgramText) (plan other : PlanData) → IsPlanOf text plan → IsPlanOf text other → plan ≡ other }
 {}

@@ -1,32 +1,31 @@
-//! A program text planned for a run: its tasks, promises and edges by their numbers, and what a run of the plan gives.
-//! The crates above use `plan`, which answers `Planned` or the first broken rule, and the plan's lawfulness.
-//! It stands on the program text of rh_task_text.
+//! A program planned for a run: nodes, promises and edges by their numbers, and what a run of a plan means.
+//! The one contract above is `plan`, which answers the plan of a text or its first broken rule; a plan is lawful. It stands on the
+//! planner of rh_planner, the checks of rh_check and the faults of rh_injector.
 #![tactic(auto)]
 
-mod body;
-mod declaring;
+mod attempt_limit;
+mod blaming;
+mod edge;
 mod edges;
-mod index;
+mod grouping;
 mod laws;
-mod node;
-mod numbers;
-mod open_task;
-mod planner;
+mod levels;
+mod made_put;
+mod outcome;
 mod planning;
-mod program;
-mod promises;
-mod sized;
-
-pub use body::{Body, MadePut, Step, Verdict};
-pub use laws::{
-    a_text_has_one_first_break, a_text_has_one_plan, awaited_promises_have_values,
-    each_text_has_a_plan_or_a_first_break, planned_texts_break_no_rule,
-    plans_of_lawful_texts_are_lawful, the_first_break_has_the_least_line,
-};
-pub use node::{Edge, Node, PlannedPromise};
-pub use numbers::Numbers;
-pub use planning::plan;
-pub use program::Plan;
-
+mod plans;
+mod references;
+mod tables;
 #[cfg(test)]
 mod tests;
+
+pub use edge::Edge;
+pub use laws::{
+    a_text_has_a_plan_or_a_first_break, accepted_buffers_follow_bodies, budgets_are_kept,
+    few_trials, plans_say_their_texts, results_rest_on_lower, summed_tasks_replay_within,
+    unskipped_tasks_are_ready, values_are_fault_free,
+};
+pub use made_put::MadePut;
+pub use outcome::{Cause, Trial, Verdict};
+pub use planning::plan;
+pub use plans::Plan;

@@ -1,36 +1,22 @@
-//! Planning a whole text.
+//! The plan of a program text.
 
-ghost use Rattle.std.specs.Prelude.{◌≡◌, IfOk};
-ghost use Rattle.rh_task_text.specs.Answering.{OnRefused};
-ghost use Rattle.rh_plan.specs.Planned.{Planned, FirstBreak};
+ghost use Rattle.std.specs.Prelude.{IfOk};
+ghost use Rattle.rh_words.specs.Refusals.{OnRefused};
+ghost use Rattle.rh_planner.specs.Planned.{FirstBreak};
+ghost use Rattle.rh_plan.specs.Planned.{IsPlanOf, ArePlain};
 
-use crate::declaring::declare;
-use crate::edges::edges_of;
-use crate::planner::Planner;
-use crate::program::Plan;
-use crate::promises::planned_promises;
+use crate::plans::Plan;
+use rh_planner::{Drafts, drafts};
 use rh_task_text::Text;
-use rh_words::{Fault, Reason, Refusal};
+use rh_words::{Fault, Refusal};
 use std::alloc::Global;
 
-/// Plans a text in two passes, or names the line of the first item that breaks a rule.
+/// The plan of a text, or its first statement that breaks a rule, with the first reason that holds there.
 pub fn plan(alloc: Global, text: &Text) -> Result<Plan, Fault<Refusal>>
-    ensures ok { IfOk result (λ plan. Planned text.now.items plan) }
-    ensures refused { OnRefused result (λ refusal. FirstBreak text.now.items refusal.line × (refusal.reason ≡ Reason.NotBuilt)) }
+    ensures planned { IfOk result (IsPlanOf text.now) }
+    ensures plain { IfOk result ArePlain }
+    ensures refused { OnRefused result (λ refusal. FirstBreak text.now refusal.line refusal.reason) }
 {
-    let items = text.items();
-    let declared = declare(alloc, items)?;
-    let mut planner = Planner::new(alloc);
-    for item in items {
-        if !planner.statement(alloc, &declared, &item.statement)? {
-            return Err(Fault::Refused(Refusal {
-                line: item.line,
-                reason: Reason::NotBuilt,
-            }));
-        }
-    }
-    let nodes = planner.into_nodes();
-    let promises = planned_promises(alloc, &declared.promises, &declared.puts)?;
-    let edges = edges_of(alloc, &promises, &nodes)?;
-    Ok(Plan::of(nodes, promises, edges))
+    let Drafts { nodes, promises } = drafts(alloc, text)?;
+    Ok(Plan::of(alloc, nodes, promises)?)
 }

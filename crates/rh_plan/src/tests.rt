@@ -1,213 +1,153 @@
-//! Small texts with their plans and first breaks, worked out by hand.
+//! The plan of a small text, worked out by hand.
 
-use crate::{Edge, Step, plan};
+use crate::{Cause, Plan, plan};
+use rh_rules::Kind;
 use rh_task_text::read_program;
-use rh_words::{Fault, Reason, Refusal};
 use std::alloc::Global;
 use std::test::Fail;
 
-/// A node as a row: its name, what it awaits and puts, and its steps.
-type NodeRow<'a> = (&'a [u8], &'a [u32], &'a [u32], &'a [StepRow<'a>]);
+/// A node as a row: its name, what it awaits and puts, how many steps it has, its level, what it needs, and the edges into and out of it.
+type NodeRow<'a> = (
+    &'a [u8],
+    &'a [u32],
+    &'a [u32],
+    usize,
+    u32,
+    u64,
+    &'a [u32],
+    &'a [u32],
+);
 
-/// A step as a row.
-enum StepRow<'a> {
-    Lit(&'a [u64]),
-    Add(u32, u32),
-    Sum(u32),
-    Put(u32, u32),
-}
+/// A promise as a row: its name, its length, its putter, whether it is `temp`, and its references.
+type PromiseRow<'a> = (&'a [u8], u32, Option<u32>, bool, u64);
 
-fn is_step(step: &Step, row: &StepRow) -> bool {
-    match step {
-        Step::Lit { words } => match row {
-            StepRow::Lit(want) => words.as_slice() == *want,
-            _ => false,
-        },
-        Step::Add { a, b } => match row {
-            StepRow::Add(want_a, want_b) => *a == *want_a && *b == *want_b,
-            _ => false,
-        },
-        Step::Sum { a } => match row {
-            StepRow::Sum(want) => *a == *want,
-            _ => false,
-        },
-        Step::Put {
-            promise,
-            local,
-            when,
-        } => match row {
-            StepRow::Put(want_promise, want_local) => {
-                *promise == *want_promise && *local == *want_local && when.is_none()
-            }
-            _ => false,
-        },
-    }
-}
+/// Three tasks: a puts x and y, b awaits x and puts z, c awaits z and x and drops x.
+const TEXT: &[u8] = b"rhc 1
+promise x 2
+promise y 1 temp
+promise z 2
+promise spare 4
+task a plain
+let v lit 7 8
+let s sum v
+put x v
+put y s when s
+end
+task b plain await x
+let w mul x x
+put z w
+end
+task c plain await z x
+drop x
+end
+";
 
-/// How the planning of the text ended: `Ok` where it is planned.
-fn outcome(alloc: Global, text: &[u8]) -> Option<Result<(), Refusal>> {
+fn planned(alloc: Global, text: &[u8]) -> Option<Plan> {
     if text.len() >= 1_000_000 {
         return None;
     }
     let text = read_program(alloc, text).ok()?;
-    match plan(alloc, &text) {
-        Ok(_) => Some(Ok(())),
-        Err(Fault::Refused(refusal)) => Some(Err(refusal)),
-        Err(Fault::OutOfMemory) => None,
+    plan(alloc, &text).ok()
+}
+
+fn is_node(plan: &Plan, node: u32, row: &NodeRow) -> bool {
+    let (name, awaits, puts, steps, level, need, into, out_of) = row;
+    node < plan.nodes()
+        && plan.kind(node) == Kind::Task
+        && plan.name(node).bytes() == *name
+        && plan.awaits(node) == *awaits
+        && plan.puts(node) == *puts
+        && plan.body(node).steps().len() == *steps
+        && is_linked(plan, node, *level, *need, into, out_of)
+}
+
+fn is_linked(plan: &Plan, node: u32, level: u32, need: u64, into: &[u32], out_of: &[u32]) -> bool {
+    node < plan.nodes()
+        && plan.level(node) == level
+        && plan.need(node) == need
+        && plan.attempts(node) == 1
+        && plan.edges_in(node) == into
+        && plan.edges_out(node) == out_of
+}
+
+fn is_promise(plan: &Plan, promise: u32, row: &PromiseRow) -> bool {
+    let (name, len, putter, temp, references) = row;
+    promise < plan.promises()
+        && plan.promise_name(promise).bytes() == *name
+        && plan.promise_len(promise) == *len
+        && plan.putter(promise) == *putter
+        && plan.is_temp(promise) == *temp
+        && plan.is_shown(promise) != *temp
+        && plan.references(promise) == *references
+}
+
+fn is_edge(plan: &Plan, at: u32, from: u32, to: u32, promise: u32) -> bool {
+    if at >= plan.edges() {
+        return false;
     }
+    let edge = plan.edge(at);
+    edge.from == from && edge.to == to && edge.promise == Some(promise)
 }
 
-fn broken(line: u32) -> Result<(), Refusal> {
-    Err(Refusal {
-        line,
-        reason: Reason::NotBuilt,
-    })
-}
-
-#[test]
-fn texts_are_planned_or_break_a_rule(rt: HostRuntime) {
-    let rows: [(&[u8], Result<(), Refusal>); 27] = [
-        (b"rhc 1\n", Ok(())),
-        (b"rhc 1\npromise x 1\npromise y 1\n", Ok(())),
-        (b"rhc 1\npromise x 1\n\n# again\npromise x 2\n", broken(5)),
-        (b"rhc 1\npromise x 1\ntask x plain\nend\n", broken(3)),
-        (b"rhc 1\ntask x plain\nend\npromise x 1\n", broken(4)),
-        (b"rhc 1\ntask x plain\nend\ntask x plain\nend\n", broken(4)),
-        (b"rhc 1\ntask b plain await x\nend\n", broken(2)),
-        (
-            b"rhc 1\ntask b plain await x\nend\npromise x 1\ntask a plain\nlet v lit 1\nput x v\nend\n",
-            broken(2),
-        ),
-        (
-            b"rhc 1\npromise x 1\ntask b plain await x\nend\ntask a plain\nlet v lit 1\nput x v\nend\n",
-            broken(3),
-        ),
-        (
-            b"rhc 1\npromise x 1\ntask a plain\nlet v lit 1\nput x v\nend\ntask b plain await x\nend\n",
-            Ok(()),
-        ),
-        (
-            b"rhc 1\npromise x 1\ntask a plain\nlet v lit 1\nput x v\nend\ntask b plain await x x\nend\n",
-            broken(7),
-        ),
-        (
-            b"rhc 1\npromise x 1\ntask a plain\nlet v lit 1\nput x v\nput x v\nend\n",
-            broken(6),
-        ),
-        (
-            b"rhc 1\npromise x 1\ntask a plain\nlet v lit 1\nput x v\nend\ntask b plain\nlet v lit 1\nput x v\nend\n",
-            broken(9),
-        ),
-        (
-            b"rhc 1\npromise x 1\ntask a plain\nput x v\nend\n",
-            broken(4),
-        ),
-        (
-            b"rhc 1\ntask a plain\nlet v lit 1\nput x v\nend\n",
-            broken(4),
-        ),
-        (
-            b"rhc 1\ntask a plain\nlet v lit 1\nput x v\nend\npromise x 1\n",
-            broken(4),
-        ),
-        (
-            b"rhc 1\npromise x 2\ntask a plain\nlet v lit 1\nput x v\nend\n",
-            broken(5),
-        ),
-        (
-            b"rhc 1\ntask a plain\nlet v lit 1\nlet w lit 1 2\nlet z add v w\nend\n",
-            broken(5),
-        ),
-        (
-            b"rhc 1\ntask a plain\nlet v lit 1 2\nlet w sum v\nlet z add v w\nend\n",
-            broken(5),
-        ),
-        (
-            b"rhc 1\ntask a plain\nlet v lit 1\nlet z add v w\nend\n",
-            broken(4),
-        ),
-        (
-            b"rhc 1\ntask a plain\nlet v lit 1\nlet z add w v\nend\n",
-            broken(4),
-        ),
-        (b"rhc 1\ntask a plain\nlet z sum z\nend\n", broken(3)),
-        (
-            b"rhc 1\ntask a plain\nlet v lit 1\nlet v sum v\nend\n",
-            broken(4),
-        ),
-        (
-            b"rhc 1\ntask a plain\nlet v lit 1\nlet w lit 1\nlet v add v w\nend\n",
-            broken(5),
-        ),
-        (
-            b"rhc 1\npromise x 1\ntask a plain\nlet v lit 1\nput x v\nend\ntask b plain await x\nlet x lit 1\nend\n",
-            broken(8),
-        ),
-        (
-            b"rhc 1\ntask a plain\nlet v lit 1\nend\ntask b plain\nlet w sum v\nend\n",
-            broken(6),
-        ),
-        (
-            b"rhc 1\ntask a plain\nlet v lit 1\nend\ntask b plain\nlet v lit 2\nend\n",
-            Ok(()),
-        ),
+fn has_nodes(plan: &Plan) -> bool {
+    let rows: [NodeRow; 3] = [
+        (b"a", &[], &[0, 1], 4, 0, 9, &[], &[0, 2]),
+        (b"b", &[0], &[2], 2, 1, 8, &[0], &[1]),
+        (b"c", &[2, 0], &[], 1, 2, 7, &[1, 2], &[]),
     ];
-    for (text, want) in rows {
-        assert_eq!(rt; outcome(rt.alloc(), text), Some(want));
+    let mut same = plan.nodes() == 3;
+    for (at, row) in rows.iter().enumerate() {
+        same = same && is_node(plan, at as u32, row);
     }
+    same
+}
+
+fn has_promises(plan: &Plan) -> bool {
+    let rows: [PromiseRow; 4] = [
+        (b"x", 2, Some(0), false, 4),
+        (b"y", 1, Some(0), true, 1),
+        (b"z", 2, Some(1), false, 3),
+        (b"spare", 4, None, false, 2),
+    ];
+    let mut same = plan.promises() == 4;
+    for (at, row) in rows.iter().enumerate() {
+        same = same && is_promise(plan, at as u32, row);
+    }
+    same
+}
+
+fn has_edges(plan: &Plan) -> bool {
+    plan.edges() == 3
+        && is_edge(plan, 0, 0, 1, 0)
+        && is_edge(plan, 1, 1, 2, 2)
+        && is_edge(plan, 2, 0, 2, 0)
+}
+
+/// The last task awaits promises 2 and 0, in this order.
+fn blames_the_first_absent(plan: &Plan) -> bool {
+    plan.nodes() == 3
+        && plan.blame(2, true, &[true, true]).is_none()
+        && plan.blame(2, true, &[false, false]) == Some(Cause::Promise(2))
+        && plan.blame(2, true, &[true, false]) == Some(Cause::Promise(0))
 }
 
 #[test]
-fn a_chain_of_two_tasks_has_this_plan(rt: HostRuntime) -> Result<(), Fail> {
-    let bytes: &[u8] =
-        b"rhc 1\npromise x 3\npromise y 3\npromise z 1\ntask a plain\nlet v lit 1 2 3\nput x v\nend\ntask b plain await x\nlet w add x x\nput y w\nlet s sum w\nend\n";
-    assert!(rt; bytes.len() < 1_000_000);
-    let text = read_program(rt.alloc(), bytes).ok().ok_or("refused")?;
-    let plan = plan(rt.alloc(), &text).ok().ok_or("not planned")?;
-    let nodes: [NodeRow; 2] = [
-        (
-            b"a",
-            &[],
-            &[0],
-            &[StepRow::Lit(&[1, 2, 3]), StepRow::Put(0, 0)],
-        ),
-        (
-            b"b",
-            &[0],
-            &[1],
-            &[StepRow::Add(0, 0), StepRow::Put(1, 1), StepRow::Sum(1)],
-        ),
-    ];
-    assert_eq!(rt; plan.nodes().len(), 2);
-    for (node, (name, awaits, puts, steps)) in plan.nodes().iter().zip(nodes.iter()) {
-        assert_eq!(rt; node.name.bytes(), *name);
-        assert_eq!(rt; node.awaits.as_slice(), *awaits);
-        assert_eq!(rt; node.puts.as_slice(), *puts);
-        assert_eq!(rt; node.body.steps().len(), steps.len());
-        for (step, row) in node.body.steps().iter().zip(steps.iter()) {
-            assert!(rt; is_step(step, row));
-        }
-    }
-    let promises: [(&[u8], u32, Option<u32>); 3] = [
-        (b"x", 3, Some(0)),
-        (b"y", 3, Some(1)),
-        (b"z", 1, None),
-    ];
-    assert_eq!(rt; plan.promises().len(), 3);
-    for (promise, (name, len, putter)) in plan.promises().iter().zip(promises) {
-        assert_eq!(rt; promise.name.bytes(), name);
-        assert_eq!(rt; promise.len, len);
-        assert_eq!(rt; promise.putter, putter);
-    }
-    assert_eq!(rt; plan.node(1).name.bytes(), b"b".as_slice());
-    assert_eq!(rt; plan.promise(2).len, 1);
-    assert_eq!(rt; plan.putter(1), Some(1));
-    assert_eq!(rt; plan.putter(2), None);
-    let edges = [Edge {
-        from: 0,
-        to: 1,
-        promise: Some(0),
-    }];
-    assert_eq!(rt; plan.edges(), edges.as_slice());
+fn three_tasks_have_this_plan(rt: HostRuntime) -> Result<(), Fail> {
+    let plan = planned(rt.alloc(), TEXT).ok_or("no plan")?;
+    assert!(rt; has_nodes(&plan) && has_edges(&plan));
+    Ok(())
+}
+
+#[test]
+fn four_promises_have_these_references(rt: HostRuntime) -> Result<(), Fail> {
+    let plan = planned(rt.alloc(), TEXT).ok_or("no plan")?;
+    assert!(rt; has_promises(&plan));
+    Ok(())
+}
+
+#[test]
+fn the_first_absent_promise_is_blamed(rt: HostRuntime) -> Result<(), Fail> {
+    let plan = planned(rt.alloc(), TEXT).ok_or("no plan")?;
+    assert!(rt; blames_the_first_absent(&plan));
     Ok(())
 }

@@ -1,9 +1,12 @@
-pub mod Answering
+-- The table of forms and what a statement says; then the lines of a text: blocks, limits, reasons, the whole text; then what the code keeps, and printing.
 pub mod Forms
-pub mod Saying
+pub mod FormRows
+pub mod Statements
+pub mod ValueColumns
 pub mod Blocks
 pub mod Limits
+pub mod LineReasons
 pub mod Program
-pub mod Lines
-pub mod Reading
-pub mod Giving
+pub mod LineReadings
+pub mod ReaderStates
+pub mod Printing

@@ -1,29 +1,64 @@
-//! Where statements stand.
+//! The table's types: its rows, where statements stand, and the blocks that they open.
 
-ghost use Rattle.std.specs.Prelude.{◌≡◌};
-ghost use Rattle.rh_task_text.specs.Forms.{form};
-ghost use Rattle.rh_task_text.specs.Blocks.{kind_of};
-
-use crate::statement::Statement;
-
-/// Where a statement stands: below no open block, right in a task, or right in any block.
+/// Where a statement stands: right in a task, right in a matrix, outside of both, or anywhere.
 #[derive(Clone, Copy)]
 pub enum Standing {
     Outside,
+    InMatrix,
     InTask,
-    InBlock,
+    Anywhere,
 }
 
-/// Where the statement stands by its form.
-pub fn standing_of(statement: &Statement) -> Standing
-    ensures { result ≡ (form (kind_of statement.now)).standing }
-{
-    match statement {
-        Statement::Promise { .. } | Statement::Task { .. } => Standing::Outside,
-        Statement::End => Standing::InBlock,
-        Statement::LetLit { .. }
-        | Statement::LetAdd { .. }
-        | Statement::LetSum { .. }
-        | Statement::Put { .. } => Standing::InTask,
-    }
+/// An open block.
+#[derive(Clone, Copy)]
+pub enum Block {
+    TaskBlock,
+    MatrixBlock { rows: u64, cols: u64 },
+    ScopeBlock,
+}
+
+/// How a statement changes which blocks are open.
+#[derive(Clone, Copy)]
+pub enum Change {
+    Opens(Block),
+    Closes,
+    Stays,
+}
+
+/// A row of the table of forms.
+#[derive(Clone, Copy)]
+pub enum FormKind {
+    PromiseForm,
+    MatrixForm,
+    RowForm,
+    PlainForm,
+    ReplicateForm,
+    ReplayForm,
+    AbftForm,
+    FinishForm,
+    GroupForm,
+    EndForm,
+    LitForm,
+    GenForm,
+    AddForm,
+    SubForm,
+    MulForm,
+    ScaleForm,
+    ShiftForm,
+    CutForm,
+    JoinForm,
+    SumForm,
+    CountForm,
+    Stencil1Form,
+    Stencil2Form,
+    ProductForm,
+    PutForm,
+    DropForm,
+    RangeForm,
+    TotalForm,
+    LinearForm,
+    ConserveForm,
+    Conserve2Form,
+    ProductCheckForm,
+    UserForm,
 }

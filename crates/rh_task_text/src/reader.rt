@@ -1,20 +1,23 @@
 //! Reading a program text line by line.
 
-ghost use Rattle.std.specs.Prelude.{◌≡◌, ◌↔◌, ◌++◌, ◌∷◌, [], IsTrue, OnOk, OnErr, IfOk, ℕ, List};
-ghost use Rattle.rh_words.specs.Text.{words_of};
-ghost use Rattle.rh_task_text.specs.Program.{is_printable, SaysNothing, IsLawful, IsLawfulText, version_text, upward};
-ghost use Rattle.rh_task_text.specs.Lines.{AddsLine, IsRefusedLine};
-ghost use Rattle.rh_task_text.specs.declared.form.Standing.TheVariants.{InTask};
+ghost use Rattle.std.specs.Prelude.{◌≡◌, ◌↔◌, ◌++◌, ◌∷◌, ◌≤◌, [], IsTrue, OnOk, OnErr, IfOk, ℕ, List};
+ghost use Rattle.rh_words.specs.Text.{words_of, is_printable, SaysNothing};
 ghost use Rattle.rh_task_text.specs.Forms.{form};
-ghost use Rattle.rh_task_text.specs.Blocks.{open_blocks, may_stand, kind_of, lets_here, Stands};
-ghost use Rattle.rh_task_text.specs.Limits.{KeepsLimits};
-ghost use Rattle.rh_task_text.specs.Answering.{OnRefused};
+ghost use Rattle.rh_task_text.specs.Statements.{kind_of};
+ghost use Rattle.rh_task_text.specs.Blocks.{open_blocks, is_let, is_check, is_in_task, is_row_form, count_line};
+ghost use Rattle.rh_task_text.specs.LineReasons.{statement_reason};
+ghost use Rattle.rh_task_text.specs.Program.{IsLawful, IsLawfulText, IsReason, version_text, upward};
+ghost use Rattle.rh_task_text.specs.ReaderStates.{AddsLine};
+ghost use Rattle.rh_words.specs.Refusals.{OnRefused};
 
-use crate::form::{Standing, standing_of};
-use crate::reading::read_statement;
+use crate::blocks::{Blocks, change_by, ends_nothing};
+use crate::form::{FormKind, Standing};
+use crate::limits::{has_room, own_limits};
+use crate::line::read_words;
 use crate::statement::{Item, Statement};
+use crate::table::form_of;
 use crate::text::Text;
-use rh_words::{Fault, LineWords, OutOfMemory, Reason};
+use rh_words::{Fault, Keyword, Line, LineValues, OutOfMemory, Reason, says_nothing};
 use std::alloc::Global;
 use std::marker::Model;
 
@@ -22,20 +25,23 @@ use std::marker::Model;
 #[derive(Drop)]
 pub struct Reader {
     items: Vec<Item>,
-    in_task: bool,
+    values: LineValues,
+    blocks: Blocks,
+    rows: u64,
     lets: usize,
+    checks: usize,
 }
 
 impl Model for Reader {
     ghost use Rattle.std.specs.Prelude.{List};
     ghost use Rattle.rh_task_text.specs.declared.statement.Item.{Item};
-    ghost use Rattle.rh_task_text.specs.Lines.{IsStateBelow};
+    ghost use Rattle.rh_task_text.specs.ReaderStates.{IsStateBelow};
 
     ghost Value = { List Item };
 
     ghost view = { λ r. r.items.items };
 
-    ghost invariant = { λ r. IsStateBelow r.items.items r.in_task r.lets };
+    ghost invariant = { λ r. IsStateBelow r.items.items r.blocks r.rows r.lets r.checks };
 }
 
 impl Reader {
@@ -45,38 +51,39 @@ impl Reader {
     {
         Ok(Reader {
             items: Vec::with_capacity(alloc, lines)?,
-            in_task: false,
+            values: LineValues::new(alloc),
+            blocks: Blocks::new(alloc),
+            rows: 0,
             lets: 0,
+            checks: 0,
         })
     }
 
     /// Reads one more line.
-    pub fn line(&mut self, alloc: Global, number: u32, line: &[u8]) -> Result<(), Fault<Reason>>
-        ensures ok { OnOk result (AddsLine self.old number line.now self.new) }
-        ensures refused { OnRefused result (λ reason. (reason ≡ Reason.NotBuilt) × IsRefusedLine self.old line.now) }
+    pub fn line(&mut self, alloc: Global, number: u32, line: Line<'_>) -> Result<(), Fault<Reason>>
+        requires { line.is_printable ≡ is_printable line.bytes.now }
+        ensures ok { OnOk result (AddsLine self.old number line.entry.bytes.now self.new) }
+        ensures refused { OnRefused result (λ reason. IsReason (upward self.old) line.entry.bytes.now reason) }
         ensures err { OnErr result (self.new ≡ self.old) }
     {
-        if !is_printable(line) {
-            return Err(Fault::Refused(Reason::NotBuilt));
+        if !line.is_printable {
+            return Err(Fault::Refused(Reason::Byte));
         }
-        let mut words = LineWords::of(line);
-        let Some(first) = words.next() else {
-            return Ok(());
-        };
-        if begins_comment(first) {
+        if says_nothing(line.bytes) {
             return Ok(());
         }
-        let statement = read_statement(alloc, first, &mut words)?;
-        if !self.stands(&statement) {
-            return Err(Fault::Refused(Reason::NotBuilt));
+        let here = self.blocks.innermost();
+        let read = read_words(alloc, &mut self.values, here, self.rows, line.bytes)?;
+        if let Some(reason) = self.statement_reason(read.kind, &read.statement) {
+            return Err(Fault::Refused(reason));
         }
-        if !self.keeps_limits(&statement) {
-            return Err(Fault::Refused(Reason::NotBuilt));
-        }
-        self.push(Item {
-            line: number,
-            statement,
-        })?;
+        self.push(
+            read.kind,
+            Item {
+                line: number,
+                statement: read.statement,
+            },
+        )?;
         Ok(())
     }
 
@@ -84,7 +91,7 @@ impl Reader {
     pub fn is_closed(&self) -> bool
         ensures { IsTrue result ↔ (open_blocks (upward self.now) ≡ []) }
     {
-        !self.in_task
+        self.blocks.depth() == 0
     }
 
     /// The text of the items.
@@ -95,83 +102,77 @@ impl Reader {
         Text::of(self.items)
     }
 
-    /// Whether the statement has a place below the items.
-    fn stands(&self, statement: &Statement) -> bool
-        ensures { result ≡ may_stand (form (kind_of statement.now)).standing (open_blocks (upward self.now)) }
+    /// The first of the reasons 8 and 9 that holds of the statement, which has this form, below the items.
+    fn statement_reason(&self, kind: FormKind, statement: &Statement) -> Option<Reason>
+        requires { kind_of statement.now ≡ kind }
+        ensures { result ≡ statement_reason (upward self.now) statement.now }
     {
-        match standing_of(statement) {
-            Standing::Outside => !self.in_task,
-            Standing::InTask | Standing::InBlock => self.in_task,
+        let here = self.blocks.innermost();
+        if ends_nothing(here, kind) {
+            return Some(Reason::EndExtra);
+        }
+        let first = form_of(kind).first;
+        if has_room(self.blocks.depth(), self.lets, self.checks, first)
+            && own_limits(here, statement)
+        {
+            None
+        } else {
+            Some(Reason::Limit)
         }
     }
 
-    /// Whether the statement is within its limits below the items.
-    fn keeps_limits(&self, statement: &Statement) -> bool
-        ensures { IsTrue result ↔ KeepsLimits (upward self.now) statement.now }
-    {
-        match statement {
-            Statement::Promise { len, .. } => 1 <= *len && *len <= 4096,
-            Statement::Task { awaits, .. } => awaits.len() <= 16,
-            Statement::LetLit { words, .. } => self.lets < 32 && words.as_slice().len() <= 4096,
-            Statement::LetAdd { .. } | Statement::LetSum { .. } => self.lets < 32,
-            Statement::End | Statement::Put { .. } => true,
-        }
-    }
-
-    /// Whether a task is open below one more statement.
-    fn in_task_below(&self, statement: &Statement) -> bool
-        ensures { result ≡ may_stand InTask (open_blocks (statement.now ∷ upward self.now)) }
-    {
-        match statement {
-            Statement::Task { .. } => true,
-            Statement::End => false,
-            Statement::Promise { .. }
-            | Statement::LetLit { .. }
-            | Statement::LetAdd { .. }
-            | Statement::LetSum { .. }
-            | Statement::Put { .. } => self.in_task,
-        }
-    }
-
-    /// How many `let` lines the open task has with one more statement.
-    fn lets_below(&self, statement: &Statement) -> usize
-        requires { KeepsLimits (upward self.now) statement.now }
-        ensures { result ≡ lets_here (statement.now ∷ upward self.now) }
-    {
-        match statement {
-            Statement::Promise { .. } | Statement::Task { .. } | Statement::End => 0,
-            Statement::LetLit { .. } | Statement::LetAdd { .. } | Statement::LetSum { .. } => {
-                self.lets + 1
-            }
-            Statement::Put { .. } => self.lets,
-        }
-    }
-
-    /// Puts an item below the others.
-    fn push(&mut self, item: Item) -> Result<(), OutOfMemory>
-        requires { IsLawful (upward self.old) item.statement }
+    /// Puts an item of this form below the others.
+    fn push(&mut self, kind: FormKind, item: Item) -> Result<(), OutOfMemory>
+        requires form { kind_of item.statement ≡ kind }
+        requires lawful { IsLawful (upward self.old) item.statement }
         ensures ok { OnOk result (self.new ≡ self.old ++ item ∷ []) }
         ensures err { OnErr result (self.new ≡ self.old) }
     {
-        let in_task = self.in_task_below(&item.statement);
-        let lets = self.lets_below(&item.statement);
+        let row = form_of(kind);
+        let change = change_by(&item.statement);
+        let rows = if is_row_form(kind) { self.rows + 1 } else { 0 };
+        let lets = count_line(row.standing, is_let(row.first), self.lets);
+        let checks = count_line(row.standing, is_check(row.first), self.checks);
         self.items.push(item)?;
-        self.in_task = in_task;
+        if let Err(fault) = self.blocks.change(change) {
+            let _last = self.items.pop();
+            return Err(fault);
+        }
+        self.rows = rows;
         self.lets = lets;
+        self.checks = checks;
         Ok(())
     }
 }
 
-/// Whether no byte is outside 0x20 to 0x7E.
-fn is_printable(line: &[u8]) -> bool
-    ensures { result ≡ is_printable line.now }
+fn is_row_form(kind: FormKind) -> bool
+    ensures { result ≡ is_row_form kind }
 {
-    line.iter().all(|b| 0x20 <= *b && *b <= 0x7E)
+    matches!(kind, FormKind::RowForm)
 }
 
-/// Whether the word, the first of a line, makes it a comment.
-fn begins_comment(word: &[u8]) -> bool
-    ensures { (rest : List (List ℕ)) → IsTrue result ↔ SaysNothing (word.now ∷ rest) }
+fn is_let(word: Keyword) -> bool
+    ensures { result ≡ is_let word }
 {
-    word.starts_with(b"#")
+    matches!(word, Keyword::LetWord)
+}
+
+fn is_check(word: Keyword) -> bool
+    ensures { result ≡ is_check word }
+{
+    matches!(word, Keyword::CheckWord)
+}
+
+/// How many lines of a task there are after one more, which stands so and counts or not.
+fn count_line(standing: Standing, counts: bool, lines: usize) -> usize
+    requires { lines ≤ 32 }
+    ensures { result ≡ count_line standing counts lines }
+{
+    if !matches!(standing, Standing::InTask) {
+        0
+    } else if counts {
+        lines + 1
+    } else {
+        lines
+    }
 }

@@ -5,7 +5,7 @@ use Rattle.rh_outside.proofs.sink.write_all.Goals as goal
 
 pub loop-at-preserved : goal.loop-at-preserved
 loop-at-preserved g c = record {
-  within = grind (arith, c.in-Ok.ensures.answer.0);
-  taken = Appends-more (g.O.Sink.taken c.args.out.now) _ _ c.args.bytes.now c.loop-at.at c.in-Ok.count c.loop-at.invariant.taken (rw take_rest at c.in-Ok.ensures.answer.2);
-  later = omega (arith, c.in-Ok.ensures.later);
+  within = grind (arith, c.in-Ok.ensures.answer.within);
+  taken = Appends-more (g.O.Sink.state c.args.out.now).taken _ _ c.args.bytes.now c.loop-at.at c.in-Ok.count c.loop-at.invariant.taken (rw take_rest at c.in-Ok.ensures.answer.taken);
+  count = omega (arith, c.in-Ok.ensures.count);
 }

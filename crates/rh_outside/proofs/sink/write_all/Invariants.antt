@@ -5,8 +5,8 @@ use Rattle.rh_outside.proofs.sink.write_all.Given as goal
 abbrev pub invariant-loop-at : goal.invariant-loop-at
 invariant-loop-at g l = record {
   within : l.at ≤ length l.bytes;
-  taken : Appends (g.O.Sink.taken l.fn.out) (g.O.Sink.taken l.out) (take l.at l.bytes);
-  later : g.O.Sink.faults l.fn.out ≤ g.O.Sink.faults l.out;
+  taken : Appends ((g.O.Sink.state l.fn.out).taken) ((g.O.Sink.state l.out).taken) (take l.at l.bytes);
+  count : (g.O.Sink.state l.fn.out).failed_writes ≤ (g.O.Sink.state l.out).failed_writes;
 }
 
 abbrev pub decreases-loop-at : goal.decreases-loop-at

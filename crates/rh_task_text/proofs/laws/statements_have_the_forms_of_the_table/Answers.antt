@@ -1,4 +1,4 @@
-use Rattle.rh_task_text.proofs.Stating.{spelled_form, form_spelled}
+use Rattle.rh_task_text.proofs.FormsOfStatements.{spelled_form, form_spelled}
 use Rattle.rh_task_text.proofs.laws.statements_have_the_forms_of_the_table.Goals as goal
 
 pub returns : goal.returns

@@ -1,0 +1,4 @@
+pub mod Attempts
+pub mod Faults
+pub mod Locals
+pub mod Puts

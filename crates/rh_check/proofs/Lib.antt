@@ -1,0 +1,2 @@
+pub mod ModularSums
+pub mod AlteredSums

@@ -1,0 +1,11 @@
+pub mod Ordering
+pub mod Ascending
+pub mod Parts
+pub mod Inserting
+pub mod FaultWords
+pub mod FaultBodies
+pub mod FaultPrefixes
+pub mod FaultAnswers
+pub mod OneFaultReading
+pub mod ReadOrBad
+pub mod PrintedFaults

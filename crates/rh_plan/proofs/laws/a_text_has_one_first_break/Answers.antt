@@ -1,5 +1,0 @@
-use Rattle.rh_plan.proofs.Breaking.{one_break}
-use Rattle.rh_plan.proofs.laws.a_text_has_one_first_break.Goals as goal
-
-pub returns : goal.returns
-returns c = one_break

@@ -1,0 +1,109 @@
+-- The step of a `let` that keeps the rules and the grammar is sound.
+use Rattle.std.proofs.Common.{◌≡◌, ℕ, zero, suc, ◌+◌, ◌<◌, ◌≤◌, ◌==◌, List, [], ◌∷◌, true, false, Option, Some, not, refl, arith, length, map, sum, ap, subst, unwrap_or, slice_index}
+use Rattle.std.proofs.lemmas.Bool.Decides.{nat_tests}
+use Rattle.std.proofs.lemmas.Option.{none-some}
+use Rattle.std.proofs.lemmas.List.{length-map}
+use Rattle.std.proofs.lemmas.List.Sums.{sum_by-cons}
+use Rattle.std.proofs.lemmas.List.Quantifiers.{position-Some}
+use Rattle.std.specs.Prelude.{nat_le}
+use Rattle.std.specs.Str.{bytes_eq}
+use Rattle.std.specs.List.{list_any, AllByRecursion}
+use Rattle.rh_task_text.specs.declared.statement.Statement.{Statement}
+use Rattle.rh_task_text.specs.declared.statement.Statement.TheVariants as text
+use Rattle.rh_rules.specs.declared.body.Step.{Step}
+use Rattle.rh_rules.specs.declared.body.Step.TheVariants as steps
+use Rattle.rh_rules.specs.Tables.{LocalName, local, place_of, is_local, number_of, lens_of}
+use Rattle.rh_rules.specs.Facets.{facets}
+use Rattle.rh_rules.specs.Limits.{IsWithinLimits}
+use Rattle.rh_rules.specs.Bodies.{IsThere, IsSoundStep, let_len, put_at, drop_at}
+use Rattle.rh_rules.specs.Above.{numbers_used, lens_used, made_len}
+use Rattle.rh_planner.proofs.Using.{not_false, neither}
+use Rattle.rh_planner.proofs.SoundTasks.{IsShort}
+use Rattle.rh_planner.proofs.DeclaredPromises.{some_of}
+
+-- the number of a local that is there
+abbrev pub IsKnown : List LocalName → List ℕ → Type 0
+IsKnown ls x = number_of ls x < length (lens_of ls)
+
+pub known : (ls : List LocalName) (x : List ℕ) → is_local ls x ≡ true → IsKnown ls x
+known ls x there =
+    let (i, at) = some_of (place_of x ls) there in
+    let h : i < length ls = (position-Some (λ (t : LocalName). bytes_eq t.name x) ls i (local [] 0) at).0 in
+    let number : number_of ls x ≡ i = ap (λ (o : Option ℕ). unwrap_or o 0) at in
+    let same : length (lens_of ls) ≡ length ls = simp length-map in
+    omega arith
+
+pub all_known : (ls : List LocalName) (xs : List (List ℕ)) → list_any (λ y. not (is_local ls y)) xs ≡ false → AllByRecursion (IsKnown ls) xs
+all_known ls [] e = tt
+all_known ls (x ∷ xs) e =
+    let (first, rest) = neither (not (is_local ls x)) (list_any (λ y. not (is_local ls y)) xs) e in
+    (known ls x (not_false (is_local ls x) first), all_known ls xs rest)
+
+-- a length at a place that is there
+pub short_at : (lens : List ℕ) (i : ℕ) → AllByRecursion IsShort lens → i < length lens → IsShort (slice_index lens i)
+short_at [] i all h = absurd (omega arith)
+short_at (n ∷ lens) zero all h = all.0
+short_at (n ∷ lens) (suc i) all h = short_at lens i all.1 (omega arith)
+
+-- the step of a `let`: sound, and as long as the local that it makes
+pub record IsSoundLet (promises lens : List ℕ) (step : Option Step) (len : ℕ) : Type 0 where
+  pub made : Step
+  pub is : step ≡ Some made
+  pub sound : IsSoundStep promises lens made
+  pub long : let_len lens made ≡ Some len
+  pub short : 1 ≤ len
+  pub puts : put_at made ≡ []
+  pub drops : drop_at made ≡ []
+
+parts_there : (ls : List LocalName) (xs : List (List ℕ)) → AllByRecursion (IsKnown ls) xs → AllByRecursion (IsThere (lens_of ls)) (map (number_of ls) xs)
+parts_there ls [] k = tt
+parts_there ls (x ∷ xs) k = (k.0, parts_there ls xs k.1)
+
+same : (a b : ℕ) → (a == b) ≡ true → a ≡ b
+same a b e = grind (arith, nat_tests)
+
+at_most : (a b : ℕ) → nat_le a b ≡ true → a ≤ b
+at_most a b e = grind (arith, nat_tests)
+
+sum_first : (lens : List ℕ) (ls : List LocalName) (xs : List (List ℕ)) → lens ≡ lens_of ls → 0 < length xs → AllByRecursion IsShort lens → AllByRecursion (IsKnown ls) xs → 1 ≤ sum (map (λ i. slice_index (lens_of ls) i) (map (number_of ls) xs))
+sum_first lens ls [] is few short k = absurd (omega arith)
+sum_first lens ls (x ∷ xs) is few short k =
+    let h : 1 ≤ slice_index (lens_of ls) (number_of ls x) = (short_at (lens_of ls) (number_of ls x) (subst (AllByRecursion IsShort) is short) k.0).0 in
+    let first : sum (map (λ i. slice_index (lens_of ls) i) (map (number_of ls) (x ∷ xs))) ≡ slice_index (lens_of ls) (number_of ls x) + sum (map (λ i. slice_index (lens_of ls) i) (map (number_of ls) xs)) = sum_by-cons (λ (n : ℕ). n) (slice_index (lens_of ls) (number_of ls x)) (map (λ i. slice_index (lens_of ls) i) (map (number_of ls) xs)) in
+    omega arith
+
+pub let_sound : (s : Statement) (promises : List ℕ) (ls : List LocalName) (x : List ℕ) → (facets s).built ≡ true → (facets s).made ≡ Some x → IsWithinLimits s
+    → AllByRecursion IsShort (lens_of ls) → AllByRecursion (IsKnown ls) (facets s).used → (facets s).fits (lens_used ls s) ≡ true → made_len ls s ≤ 4096
+    → IsSoundLet promises (lens_of ls) ((facets s).step (numbers_used ls s)) (made_len ls s)
+unfolding facets
+let_sound (text.LetLit y words) promises ls x b e h short k fits most = record { made = steps.Lit words; is = refl; sound = h; long = refl; short = h.0; puts = refl; drops = refl }
+let_sound (text.LetGen y n start limit) promises ls x b e h short k fits most = record { made = steps.Gen n start limit; is = refl; sound = h; long = refl; short = h.0; puts = refl; drops = refl }
+let_sound (text.LetAdd y a c) promises ls x b e h short k fits most =
+    let na = number_of ls a in let nc = number_of ls c in
+    record { made = steps.Add na nc; is = refl; sound = (k.0, k.1.0, same _ _ fits); long = refl; short = (short_at (lens_of ls) na short k.0).0; puts = refl; drops = refl }
+let_sound (text.LetSub y a c) promises ls x b e h short k fits most =
+    let na = number_of ls a in let nc = number_of ls c in
+    record { made = steps.Sub na nc; is = refl; sound = (k.0, k.1.0, same _ _ fits); long = refl; short = (short_at (lens_of ls) na short k.0).0; puts = refl; drops = refl }
+let_sound (text.LetMul y a c) promises ls x b e h short k fits most =
+    let na = number_of ls a in let nc = number_of ls c in
+    record { made = steps.Mul na nc; is = refl; sound = (k.0, k.1.0, same _ _ fits); long = refl; short = (short_at (lens_of ls) na short k.0).0; puts = refl; drops = refl }
+let_sound (text.LetScale y a f) promises ls x b e h short k fits most =
+    record { made = steps.Scale (number_of ls a) f; is = refl; sound = k.0; long = refl; short = (short_at (lens_of ls) (number_of ls a) short k.0).0; puts = refl; drops = refl }
+let_sound (text.LetShift y a n) promises ls x b e h short k fits most =
+    record { made = steps.Shift (number_of ls a) n; is = refl; sound = (k.0, h); long = refl; short = (short_at (lens_of ls) (number_of ls a) short k.0).0; puts = refl; drops = refl }
+let_sound (text.LetCut y a from len) promises ls x b e h short k fits most =
+    let some : 0 < len = h in
+    record { made = steps.Cut (number_of ls a) from len; is = refl; sound = (k.0, some, at_most (from + len) (slice_index (lens_of ls) (number_of ls a)) fits); long = refl; short = some; puts = refl; drops = refl }
+let_sound (text.LetJoin y parts) promises ls x b e h short k fits most =
+    let some : 0 < length parts = h.0 in
+    let few : length parts ≤ 16 = h.1 in
+    let same_length : length (map (number_of ls) parts) ≡ length parts = simp length-map in
+    record { made = steps.Join (map (number_of ls) parts); is = refl; sound = (parts_there ls parts k, omega arith, omega arith, most); long = refl; short = sum_first (lens_of ls) ls parts refl some short k; puts = refl; drops = refl }
+let_sound (text.LetSum y a) promises ls x b e h short k fits most =
+    record { made = steps.Sum (number_of ls a); is = refl; sound = k.0; long = refl; short = omega arith; puts = refl; drops = refl }
+let_sound (text.LetCount y a) promises ls x b e h short k fits most =
+    record { made = steps.Count (number_of ls a); is = refl; sound = k.0; long = refl; short = omega arith; puts = refl; drops = refl }
+let_sound (text.LetStencil1 y l m r f n) promises ls x b e h short k fits most = cc
+let_sound (text.LetStencil2 y north south west east m cols f n) promises ls x b e h short k fits most = cc
+let_sound (text.LetProduct y a v) promises ls x b e h short k fits most = cc
+let_sound s promises ls x b e h short k fits most = absurd (none-some x e)

@@ -1,0 +1,28 @@
+-- What one more statement adds to the facts above.
+use Rattle.std.specs.Prelude.{ℕ, ◌+◌, List, [], ◌∷◌, ◌++◌, drop, map, length, option_to_list, unwrap_or}
+use Rattle.rh_task_text.specs.declared.statement.Statement.{Statement}
+use Rattle.rh_task_text.specs.declared.statement.SchemeText.TheVariants.{Plain}
+use Rattle.rh_rules.specs.Tables.{put_all, number_of, promise_number}
+use Rattle.rh_rules.specs.Facets.{Turn, Opens, Closes, Stays, facets}
+use Rattle.rh_rules.specs.Above.{Look, seen, OpenBlock, opening_block, puts_by, nodes_by, await_local, local_made, steps_by, Facts}
+
+abbrev pub blocks_after : ℕ → List OpenBlock → Statement → List OpenBlock
+blocks_after count around s = elim ((facets s).turn) [
+  | Opens ↦ opening_block count s ∷ around
+  | Closes ↦ drop 1 around
+  | Stays ↦ around
+]
+
+abbrev pub after : Look → Facts → Statement → Facts
+after look f s = record {
+  names = f.names ++ option_to_list (facets s).declared;
+  promises = put_all (puts_by f.count f.blocks s) f.promises ++ option_to_list (facets s).promised;
+  blocks = blocks_after f.count f.blocks s;
+  count = f.count + length (nodes_by look f s);
+  nodes = f.nodes ++ nodes_by look f s;
+  inputs = elim ((facets s).turn) [ Opens ↦ map (promise_number (seen look f.promises)) (facets s).task_awaits | Closes ↦ [] | Stays ↦ f.inputs ];
+  locals = elim ((facets s).turn) [ Opens ↦ map (await_local (seen look f.promises)) (facets s).task_awaits | Closes ↦ [] | Stays ↦ f.locals ++ local_made f.locals s ];
+  drops = elim ((facets s).turn) [ Opens ↦ [] | Closes ↦ [] | Stays ↦ f.drops ++ map (number_of f.locals) (option_to_list (facets s).dropped) ];
+  steps = elim ((facets s).turn) [ Opens ↦ [] | Closes ↦ [] | Stays ↦ f.steps ++ steps_by f.promises f.inputs f.locals s ];
+  scheme = elim ((facets s).turn) [ Opens ↦ unwrap_or (facets s).scheme Plain | Closes ↦ Plain | Stays ↦ f.scheme ];
+}

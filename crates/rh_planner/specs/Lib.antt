@@ -1,0 +1,6 @@
+pub mod Declarations
+pub mod Following
+pub mod Making
+pub mod States
+pub mod Planned
+pub mod Sound

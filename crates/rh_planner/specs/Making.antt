@@ -1,0 +1,44 @@
+-- The reason of a line that uses locals, by the tables of its task.
+use Rattle.std.specs.Prelude.{ℕ, ◌==◌, ◌||◌, List, Bool, Option, Some, None, not, cond, nat_lt, nat_le, is_some, slice_index}
+use Rattle.std.specs.List.{list_any}
+use Rattle.rh_words.specs.declared.limits.TheConstants.{MAX_PROMISE_WORDS, MAX_NODES}
+use Rattle.rh_words.specs.declared.reason.Reason.{Reason}
+use Rattle.rh_words.specs.declared.reason.Reason.TheVariants as reasons
+use Rattle.rh_task_text.specs.declared.statement.Statement.{Statement}
+use Rattle.rh_rules.specs.declared.node.PlannedPromise.{PlannedPromise}
+use Rattle.rh_rules.specs.Tables.{LocalName, if_any, is_among, is_in, place_of, is_local, is_promise, is_put}
+use Rattle.rh_rules.specs.Facets.{facets}
+use Rattle.rh_rules.specs.Rules.{are_distinct}
+use Rattle.rh_rules.specs.Above.{lens_used, numbers_used, made_len}
+
+-- one of the locals that the line uses is not there, or is dropped
+abbrev pub uses_unknown : List LocalName → Statement → Bool
+uses_unknown ls s = list_any (λ x. not (is_local ls x)) (facets s).used
+
+abbrev pub uses_dropped : List LocalName → List ℕ → Statement → Bool
+uses_dropped ls drops s = list_any (λ x. if_any (λ i. is_in i drops) (place_of x ls)) (facets s).used
+
+-- of a `let` that makes x
+abbrev pub let_reason : List LocalName → List ℕ → List ℕ → Statement → Option Reason
+let_reason ls drops x s =
+    cond (is_local ls x) (Some reasons.Twice)
+    (cond (uses_unknown ls s) (Some reasons.Unknown)
+    (cond (not ((facets s).fits (lens_used ls s))) (Some reasons.Length)
+    (cond (uses_dropped ls drops s) (Some reasons.Dropped)
+    (cond (nat_lt MAX_PROMISE_WORDS (made_len ls s)) (Some reasons.PlanLimit) None))))
+
+-- of a `put` of this promise, which is declared
+abbrev pub put_reason : PlannedPromise → List LocalName → List ℕ → Statement → Option Reason
+put_reason p ls drops s =
+    cond (uses_unknown ls s) (Some reasons.Unknown)
+    (cond (p.scope || is_some p.putter) (Some reasons.Owner)
+    (cond (not (slice_index (lens_used ls s) 0 == p.len) || not ((facets s).fits (lens_used ls s))) (Some reasons.Length)
+    (cond (uses_dropped ls drops s) (Some reasons.Dropped) None)))
+
+-- of a plain task of this name that awaits these, below so many nodes
+abbrev pub task_reason : List (List ℕ) → List PlannedPromise → ℕ → List ℕ → List (List ℕ) → Option Reason
+task_reason names promises count name awaits =
+    cond (is_among name names || not (are_distinct awaits)) (Some reasons.Twice)
+    (cond (list_any (λ q. not (is_promise promises q)) awaits) (Some reasons.Unknown)
+    (cond (list_any (λ q. not (is_put promises q)) awaits) (Some reasons.Order)
+    (cond (nat_le MAX_NODES count) (Some reasons.PlanLimit) None)))

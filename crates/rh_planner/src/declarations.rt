@@ -1,0 +1,174 @@
+//! The names and promises that the lines above declare.
+
+ghost use Rattle.std.specs.Prelude.{◌≡◌, ◌<◌, ◌≤◌, ◌++◌, ◌∷◌, [], List, ℕ, Some, None, OnOk, OnErr, IfSome, length, false, not, cond, ◌&&◌};
+ghost use Rattle.rh_words.specs.Naming.{is_name};
+ghost use Rattle.rh_rules.specs.Tables.{declared_promise, putting, is_among, promise_at, is_put};
+ghost use Rattle.rh_rules.specs.Rules.{is_promise_over};
+ghost use Rattle.rh_planner.specs.Declarations.{declarations, IsNoted};
+ghost use Rattle.rh_rules.specs.Tables.{put_all};
+
+use rh_rules::PlannedPromise;
+use rh_words::limits::{MAX_PROMISES, MAX_SHOWN_WORDS, MAX_TOTAL_WORDS};
+use rh_words::{Name, NameKey, OutOfMemory, keys_tell_names_apart};
+use std::alloc::Global;
+use std::collections::BTreeMap;
+use std::marker::Model;
+
+/// The names that are declared, found through one ordered map, and the promises among them, by their numbers.
+#[derive(Drop)]
+pub struct Declared {
+    /// By name the number of its promise, or none where it is another's name.
+    known: BTreeMap<NameKey, Option<u32>>,
+    names: Vec<Name>,
+    promises: Vec<PlannedPromise>,
+    /// How many words the promises have, and how many of these a report shows.
+    words: u64,
+    shown: u64,
+}
+
+impl Model for Declared {
+    ghost use Rattle.rh_planner.specs.Declarations.{Declarations, declarations, AreFound};
+
+    ghost Value = { Declarations };
+
+    ghost view = { λ t. declarations t.names.items t.promises.items };
+
+    ghost invariant = { λ t. AreFound t.known t.names.items t.promises.items t.words t.shown };
+}
+
+impl Declared {
+    pub fn new(alloc: Global) -> Declared
+        ensures { result ≡ declarations [] [] }
+    {
+        Declared {
+            known: BTreeMap::new(alloc),
+            names: Vec::new(alloc),
+            promises: Vec::new(alloc),
+            words: 0,
+            shown: 0,
+        }
+    }
+
+    /// The promises.
+    pub fn into_promises(self) -> Vec<PlannedPromise>
+        ensures { result.items ≡ self.promises }
+    {
+        self.promises
+    }
+
+    pub fn promises(&self) -> &[PlannedPromise]
+        ensures { result.now ≡ self.now.promises }
+    {
+        self.promises.as_slice()
+    }
+
+    /// Whether the name is declared.
+    pub fn has(&self, name: &Name) -> bool
+        ensures { result ≡ is_among name.now self.now.names }
+    {
+        let _is_name = name.bytes();
+        self.known.contains_key(&name.key())
+    }
+
+    /// The number of the promise of the name.
+    pub fn promise(&self, name: &Name) -> Option<u32>
+        ensures number { result ≡ promise_at name.now self.now.promises }
+        ensures within { IfSome result (λ i. i < length self.now.promises) }
+    {
+        let _is_name = name.bytes();
+        match self.known.get(&name.key()) {
+            Some(number) => *number,
+            None => None,
+        }
+    }
+
+    /// Adds a name that is no promise's.
+    pub fn add_name(&mut self, name: Name) -> Result<(), OutOfMemory>
+        requires { is_among name self.old.names ≡ false }
+        ensures { OnOk result (self.new ≡ declarations (self.old.names ++ name ∷ []) self.old.promises) }
+    {
+        keys_tell_names_apart();
+        let _is_name = name.bytes();
+        note(&mut self.names, &mut self.known, name, None)?;
+        Ok(())
+    }
+
+    /// Whether one more promise goes beyond a limit.
+    pub fn is_over(&self, len: u32, temp: bool) -> bool
+        requires { len ≤ 4096 }
+        ensures { result ≡ is_promise_over self.now.promises (declared_promise [] len temp false) }
+    {
+        self.promises.len() >= MAX_PROMISES
+            || self.words + u64::from(len) > MAX_TOTAL_WORDS
+            || self.shown + shown_words(len, temp) > MAX_SHOWN_WORDS
+    }
+
+    /// Adds a promise, which is within the limits.
+    pub fn add_promise(&mut self, name: Name, len: u32, temp: bool) -> Result<(), OutOfMemory>
+        requires fresh { is_among name self.old.names ≡ false }
+        requires short { len ≤ 4096 }
+        requires room { is_promise_over self.old.promises (declared_promise [] len temp false) ≡ false }
+        ensures { OnOk result (self.new ≡ declarations (self.old.names ++ name ∷ []) (self.old.promises ++ declared_promise name len temp false ∷ [])) }
+    {
+        keys_tell_names_apart();
+        let _is_name = name.bytes();
+        let number = self.promises.len() as u32;
+        self.promises.push(PlannedPromise {
+            name,
+            len,
+            putter: None,
+            temp,
+            scope: false,
+        })?;
+        match note(&mut self.names, &mut self.known, name, Some(number)) {
+            Ok(()) => {
+                self.words += u64::from(len);
+                self.shown += shown_words(len, temp);
+                Ok(())
+            }
+            Err(fault) => {
+                self.promises.pop();
+                Err(fault)
+            }
+        }
+    }
+
+    /// The node of this number puts the promise, which nothing puts above.
+    pub fn put(&mut self, promise: u32, node: u32)
+        requires { promise < length self.old.promises }
+        ensures { (name : List ℕ) → promise_at name self.old.promises ≡ Some promise → is_put self.old.promises name ≡ false
+            → self.new ≡ declarations self.old.names (put_all (putting name node ∷ []) self.old.promises) }
+    {
+        let promise = &mut self.promises[promise as usize];
+        promise.putter = Some(node);
+    }
+}
+
+/// How many words of a declared promise a report shows.
+fn shown_words(len: u32, temp: bool) -> u64
+    ensures { result ≡ cond (not temp && not false) len 0 }
+{
+    if temp { 0 } else { u64::from(len) }
+}
+
+/// Adds a name with its number, or nothing where there is no memory.
+fn note(
+    names: &mut Vec<Name>,
+    known: &mut BTreeMap<NameKey, Option<u32>>,
+    name: Name,
+    number: Option<u32>,
+) -> Result<(), OutOfMemory>
+    ensures names { OnOk result (names.new.items ≡ names.old.items ++ name ∷ []) }
+    ensures noted { OnOk result (IsNoted known.old known.new name number) }
+    ensures names_kept { OnErr result (names.new.items ≡ names.old.items) }
+    ensures known_kept { OnErr result (known.new.entries ≡ known.old.entries) }
+{
+    names.push(name)?;
+    match known.insert(name.key(), number) {
+        Ok(_) => Ok(()),
+        Err(_) => {
+            names.pop();
+            Err(OutOfMemory)
+        }
+    }
+}

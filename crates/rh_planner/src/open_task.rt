@@ -1,0 +1,187 @@
+//! The open task while its lines are planned.
+
+ghost use Rattle.std.specs.Prelude.{◌≡◌, ◌++◌, ◌≤◌, ◌<◌, ◌+◌, [], IfOk, Some, None, length, not, true, false, option_to_list, is_some, slice_index, ◌==◌, ◌||◌};
+ghost use Rattle.std.specs.List.{list_any};
+ghost use Rattle.rh_words.specs.declared.limits.TheConstants.{MAX_AWAITS, MAX_LETS};
+ghost use Rattle.rh_rules.specs.Tables.{is_in};
+ghost use Rattle.rh_rules.specs.Facets.{facets};
+ghost use Rattle.rh_rules.specs.Limits.{IsWithinLimits};
+ghost use Rattle.rh_rules.specs.Above.{numbers_used, lens_used, local_made};
+ghost use Rattle.rh_planner.specs.Making.{let_reason, put_reason, uses_unknown};
+
+use crate::used::look_up;
+use rh_rules::{
+    Body, Local, Numbers, PlannedPromise, fits, list_used, made_len, place_of, step_of,
+};
+use rh_task_text::Statement;
+use rh_words::limits::MAX_PROMISE_WORDS;
+use rh_words::{Name, OutOfMemory, Reason};
+use std::alloc::Global;
+
+/// The open task, or an empty one where none is open. Its lists keep their room from task to task.
+#[derive(Drop)]
+pub struct OpenTask {
+    /// The numbers of the promises that it awaits.
+    pub inputs: Numbers,
+    pub locals: Vec<Local>,
+    /// The numbers of the locals that it drops.
+    pub drops: Vec<u32>,
+    pub body: Body,
+    /// What the last line uses: names, numbers and lengths of locals.
+    pub names: Vec<Name>,
+    pub numbers: Vec<u32>,
+    pub lens: Vec<u32>,
+}
+
+impl OpenTask {
+    /// No task.
+    pub fn none(alloc: Global) -> OpenTask
+        ensures inputs { result.inputs ≡ [] }
+        ensures locals { result.locals.items ≡ [] }
+        ensures drops { result.drops.items ≡ [] }
+        ensures body { result.body ≡ [] }
+    {
+        OpenTask {
+            inputs: Numbers::new(alloc),
+            locals: Vec::new(alloc),
+            drops: Vec::new(alloc),
+            body: Body::new(alloc),
+            names: Vec::new(alloc),
+            numbers: Vec::new(alloc),
+            lens: Vec::new(alloc),
+        }
+    }
+
+    /// Looks up the locals that the statement uses. Whether all are there.
+    pub fn look_up(&mut self, statement: &Statement) -> Result<bool, OutOfMemory>
+        requires { length self.old.locals.items ≤ MAX_AWAITS + MAX_LETS }
+        ensures known { IfOk result (λ known. known ≡ not (uses_unknown self.old.locals.items statement.now)) }
+        ensures numbers { IfOk result (λ known. known ≡ true → self.new.numbers.items ≡ numbers_used self.old.locals.items statement.now) }
+        ensures lens { IfOk result (λ known. known ≡ true → self.new.lens.items ≡ lens_used self.old.locals.items statement.now) }
+        ensures inputs { self.new.inputs ≡ self.old.inputs }
+        ensures locals { self.new.locals ≡ self.old.locals }
+        ensures drops { self.new.drops ≡ self.old.drops }
+        ensures body { self.new.body ≡ self.old.body }
+    {
+        self.names.clear();
+        list_used(statement, &mut self.names)?;
+        look_up(&self.locals, &self.names, &mut self.numbers, &mut self.lens)
+    }
+
+    /// Whether a local that was looked up is dropped above.
+    pub fn is_any_dropped(&self) -> bool
+        ensures { result ≡ list_any (λ i. is_in i self.now.drops.items) self.now.numbers.items }
+    {
+        self.numbers
+            .iter()
+            .any(|number| self.drops.contains(number))
+    }
+
+    /// Why a `let` that makes the local `x` is refused. Where it is not, what it uses is looked up, fits and is short.
+    #[tactic(auto, using(crate::proofs::Using::uses_dropped_numbers))]
+    fn let_reason(&mut self, x: &Name, statement: &Statement) -> Result<Option<Reason>, OutOfMemory>
+        requires few { length self.old.locals.items ≤ MAX_AWAITS + MAX_LETS }
+        requires within { IsWithinLimits statement.now }
+        ensures reason { IfOk result (λ answer. answer ≡ let_reason self.old.locals.items self.old.drops.items x.now statement.now) }
+        ensures numbers { IfOk result (λ answer. answer ≡ None → self.new.numbers.items ≡ numbers_used self.old.locals.items statement.now) }
+        ensures lens { IfOk result (λ answer. answer ≡ None → self.new.lens.items ≡ lens_used self.old.locals.items statement.now) }
+        ensures fits { IfOk result (λ answer. answer ≡ None → (facets statement.now).fits self.new.lens.items ≡ true) }
+        ensures short { IfOk result (λ answer. answer ≡ None → (facets statement.now).len self.new.lens.items ≤ MAX_PROMISE_WORDS) }
+        ensures inputs { self.new.inputs ≡ self.old.inputs }
+        ensures locals { self.new.locals ≡ self.old.locals }
+        ensures drops { self.new.drops ≡ self.old.drops }
+        ensures body { self.new.body ≡ self.old.body }
+    {
+        if place_of(&self.locals, x).is_some() {
+            return Ok(Some(Reason::Twice));
+        }
+        if !self.look_up(statement)? {
+            return Ok(Some(Reason::Unknown));
+        }
+        if !fits(statement, &self.lens) {
+            return Ok(Some(Reason::Length));
+        }
+        if self.is_any_dropped() {
+            return Ok(Some(Reason::Dropped));
+        }
+        if made_len(statement, &self.lens) > MAX_PROMISE_WORDS {
+            return Ok(Some(Reason::PlanLimit));
+        }
+        Ok(None)
+    }
+
+    /// Plans a `let` that makes the local `x`, or names the rule that it breaks.
+    pub fn make(
+        &mut self,
+        alloc: Global,
+        x: Name,
+        statement: &Statement,
+    ) -> Result<Option<Reason>, OutOfMemory>
+        requires few { length self.old.locals.items ≤ MAX_AWAITS + MAX_LETS }
+        requires within { IsWithinLimits statement.now }
+        requires makes { (facets statement.now).made ≡ Some x }
+        ensures reason { IfOk result (λ answer. answer ≡ let_reason self.old.locals.items self.old.drops.items x statement.now) }
+        ensures inputs { self.new.inputs ≡ self.old.inputs }
+        ensures drops { self.new.drops ≡ self.old.drops }
+        ensures locals { IfOk result (λ answer. answer ≡ None → self.new.locals.items ≡ self.old.locals.items ++ local_made self.old.locals.items statement.now) }
+        ensures steps { IfOk result (λ answer. answer ≡ None → self.new.body ≡ self.old.body ++ option_to_list ((facets statement.now).step (numbers_used self.old.locals.items statement.now))) }
+    {
+        if let Some(reason) = self.let_reason(&x, statement)? {
+            return Ok(Some(reason));
+        }
+        let len = made_len(statement, &self.lens);
+        if let Some(step) = step_of(alloc, statement, &self.numbers, &self.lens)? {
+            self.body.push(step)?;
+        }
+        self.locals.push(Local::new(x, len as u32))?;
+        Ok(None)
+    }
+
+    /// Why a `put` to this promise is refused. Where it is not, what it uses is looked up.
+    #[tactic(auto, using(crate::proofs::Using::uses_dropped_numbers))]
+    pub fn put_reason(
+        &mut self,
+        promise: &PlannedPromise,
+        statement: &Statement,
+    ) -> Result<Option<Reason>, OutOfMemory>
+        requires few { length self.old.locals.items ≤ MAX_AWAITS + MAX_LETS }
+        requires uses { 0 < length (facets statement.now).used }
+        ensures reason { IfOk result (λ answer. answer ≡ put_reason promise.now self.old.locals.items self.old.drops.items statement.now) }
+        ensures numbers { IfOk result (λ answer. answer ≡ None → self.new.numbers.items ≡ numbers_used self.old.locals.items statement.now) }
+        ensures unput { IfOk result (λ answer. answer ≡ None → is_some promise.now.putter ≡ false) }
+        ensures inputs { self.new.inputs ≡ self.old.inputs }
+        ensures locals { self.new.locals ≡ self.old.locals }
+        ensures drops { self.new.drops ≡ self.old.drops }
+        ensures body { self.new.body ≡ self.old.body }
+    {
+        if !self.look_up(statement)? {
+            return Ok(Some(Reason::Unknown));
+        }
+        if is_owned(promise) {
+            return Ok(Some(Reason::Owner));
+        }
+        if is_put_misfit(promise, statement, &self.lens) {
+            return Ok(Some(Reason::Length));
+        }
+        if self.is_any_dropped() {
+            return Ok(Some(Reason::Dropped));
+        }
+        Ok(None)
+    }
+}
+
+/// Whether the promise is a scope's own or is put above.
+fn is_owned(promise: &PlannedPromise) -> bool
+    ensures { result ≡ (promise.now.scope || is_some promise.now.putter) }
+{
+    promise.scope || promise.putter.is_some()
+}
+
+/// Whether what a `put` uses, of these lengths, does not fit.
+fn is_put_misfit(promise: &PlannedPromise, statement: &Statement, lens: &[u32]) -> bool
+    requires uses { 0 < length lens.now }
+    requires all { length lens.now ≡ length (facets statement.now).used }
+    ensures { result ≡ (not (slice_index lens.now 0 == promise.now.len) || not ((facets statement.now).fits lens.now)) }
+{
+    lens[0] != promise.len || !fits(statement, lens)
+}

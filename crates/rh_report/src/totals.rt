@@ -1,0 +1,160 @@
+//! The last line of a report.
+
+ghost use Rattle.std.specs.Prelude.{◌≡◌, ◌<◌, ◌++◌, OnOk, count_by, length};
+ghost use Rattle.rh_injector.specs.declared.faults.Strike.{Strike};
+ghost use Rattle.rh_plan.specs.Results.{is_accepted, is_failed, is_skipped};
+ghost use Rattle.rh_report.specs.Totals.{endings_text, is_put_at, is_task_at, made_by, made_text, put_count, task_count, total_line};
+
+use crate::ends::{trials_at, words_at};
+use crate::naming::print_labelled;
+use crate::promises::is_declared;
+use rh_injector::{Faults, Strike};
+use rh_plain::Ran;
+use rh_plan::{Plan, Verdict};
+use rh_rules::Kind;
+use rh_schemes::Trials;
+use rh_words::{Bytes, OutOfMemory};
+use std::alloc::Global;
+
+/// Appends the last line.
+#[tactic(auto, using(std::proofs::Common::append_assoc))]
+pub(crate) fn print_total(
+    alloc: Global,
+    plan: &Plan,
+    faults: &Faults,
+    ran: &Ran,
+    into: &mut Bytes,
+) -> Result<(), OutOfMemory>
+    ensures { OnOk result (into.new ≡ into.old ++ total_line plan.now faults.now ran.now) }
+{
+    print_endings(alloc, plan, ran, into)?;
+    print_made(alloc, plan, faults, ran, into)?;
+    Ok(())
+}
+
+/// Appends how many tasks there are and how they ended.
+#[tactic(auto, using(std::proofs::Common::append_assoc), unfolding(crate::specs::Totals::endings_text))]
+fn print_endings(alloc: Global, plan: &Plan, ran: &Ran, into: &mut Bytes) -> Result<(), OutOfMemory>
+    ensures { OnOk result (into.new ≡ into.old ++ endings_text plan.now ran.now) }
+{
+    let verdicts = ran.verdicts();
+    print_labelled(alloc, b"total tasks ", task_count(plan), into)?;
+    print_labelled(alloc, b" accepted ", accepted_count(verdicts), into)?;
+    print_labelled(alloc, b" failed ", failed_count(verdicts), into)?;
+    print_labelled(alloc, b" skipped ", skipped_count(verdicts), into)?;
+    Ok(())
+}
+
+/// Appends how many declared promises were put, and how many faults were in an attempt that was made.
+#[tactic(auto, using(std::proofs::Common::append_assoc), unfolding(crate::specs::Totals::made_text))]
+fn print_made(
+    alloc: Global,
+    plan: &Plan,
+    faults: &Faults,
+    ran: &Ran,
+    into: &mut Bytes,
+) -> Result<(), OutOfMemory>
+    ensures { OnOk result (into.new ≡ into.old ++ made_text plan.now faults.now ran.now) }
+{
+    let made = made_count(faults.as_slice(), ran.trials());
+    print_labelled(alloc, b" puts ", put_count(plan, ran), into)?;
+    print_labelled(alloc, b" faults ", made, into)?;
+    print_labelled(alloc, b" of ", u64::from(faults.len()), into)?;
+    into.append(b"\n")?;
+    Ok(())
+}
+
+/// How many tasks a plan has.
+fn task_count(plan: &Plan) -> u64
+    ensures { result ≡ task_count plan.now }
+{
+    let mut tasks: u64 = 0;
+    for node in 0..plan.nodes() {
+        tasks += u64::from(is_task(plan, node));
+    }
+    tasks
+}
+
+/// Whether a node is a task.
+fn is_task(plan: &Plan, node: u32) -> bool
+    requires { node < length plan.now.nodes }
+    ensures { result ≡ is_task_at plan.now node }
+{
+    plan.kind(node) == Kind::Task
+}
+
+/// How many tasks were accepted, as they were made or corrected.
+fn accepted_count(verdicts: &[Verdict]) -> u64
+    ensures { result ≡ count_by is_accepted verdicts.now }
+{
+    verdicts.iter().filter(|v| is_accepted(**v)).count() as u64
+}
+
+fn is_accepted(verdict: Verdict) -> bool
+    ensures { result ≡ is_accepted verdict }
+{
+    match verdict {
+        Verdict::Accepted { .. } => true,
+        Verdict::Corrected { .. } => true,
+        _ => false,
+    }
+}
+
+/// How many tasks failed.
+fn failed_count(verdicts: &[Verdict]) -> u64
+    ensures { result ≡ count_by is_failed verdicts.now }
+{
+    verdicts.iter().filter(|v| is_failed(**v)).count() as u64
+}
+
+fn is_failed(verdict: Verdict) -> bool
+    ensures { result ≡ is_failed verdict }
+{
+    matches!(verdict, Verdict::Failed)
+}
+
+/// How many tasks were skipped.
+fn skipped_count(verdicts: &[Verdict]) -> u64
+    ensures { result ≡ count_by is_skipped verdicts.now }
+{
+    verdicts.iter().filter(|v| is_skipped(**v)).count() as u64
+}
+
+fn is_skipped(verdict: Verdict) -> bool
+    ensures { result ≡ is_skipped verdict }
+{
+    matches!(verdict, Verdict::Skipped(_))
+}
+
+/// How many declared promises were put.
+fn put_count(plan: &Plan, ran: &Ran) -> u64
+    ensures { result ≡ put_count plan.now ran.now }
+{
+    let mut puts: u64 = 0;
+    for promise in 0..plan.promises() {
+        puts += u64::from(is_put(plan, ran, promise));
+    }
+    puts
+}
+
+/// Whether a promise was declared, and put.
+fn is_put(plan: &Plan, ran: &Ran, promise: u32) -> bool
+    requires { promise < length plan.now.promises }
+    ensures { result ≡ is_put_at plan.now ran.now promise }
+{
+    is_declared(plan, promise) && words_at(ran.values(), promise).is_some()
+}
+
+/// Of how many of the faults the attempt was made.
+fn made_count(strikes: &[Strike], trials: &[Trials]) -> u64
+    ensures { result ≡ count_by (made_by trials.now) strikes.now }
+{
+    strikes.iter().filter(|s| was_made(trials, s)).count() as u64
+}
+
+/// Whether the attempt of a fault was made.
+fn was_made(trials: &[Trials], strike: &Strike) -> bool
+    ensures { result ≡ made_by trials.now strike.now }
+{
+    (strike.attempt as usize) < trials_at(trials, strike.node).len()
+}

@@ -1,0 +1,136 @@
+-- What planning asks of a statement, whatever its form: one row for each form. All that is said of lists of statements is said over these.
+use Rattle.std.specs.Prelude.{ℕ, ◌+◌, ◌*◌, ◌==◌, ◌&&◌, ◌≡◌, ◌≤◌, ◌<◌, List, [], ◌∷◌, Bool, true, false, not, Option, Some, None, length, nat_le, option_to_list, sum, slice_index, drop}
+use Rattle.std.specs.List.{list_all}
+use Rattle.rh_task_text.specs.declared.statement.Statement.{Statement}
+use Rattle.rh_task_text.specs.declared.statement.Statement.TheVariants as text
+use Rattle.rh_task_text.specs.declared.statement.SchemeText.{SchemeText}
+use Rattle.rh_task_text.specs.declared.statement.SchemeText.TheVariants.{Plain, Replicate, Replay, Abft}
+use Rattle.rh_rules.specs.declared.body.Step.{Step}
+use Rattle.rh_rules.specs.declared.body.Step.TheVariants as steps
+use Rattle.rh_rules.specs.declared.node.PlannedPromise.{PlannedPromise}
+use Rattle.rh_rules.specs.Tables.{declared_promise}
+
+-- how a statement changes the block that is open
+pub data Turn : Type 0 where
+  Opens : Turn
+  Closes : Turn
+  Stays : Turn
+
+pub record Facets : Type 0 where
+  -- it is of a form that is planned
+  pub built : Bool
+  pub turn : Turn
+  -- the name that it declares: of a promise, matrix, task, group or scope
+  pub declared : Option (List ℕ)
+  -- the promise that it declares: a scope has one of three words
+  pub promised : Option PlannedPromise
+  -- its await list
+  pub awaited : List (List ℕ)
+  -- the names that a task awaits, which are its first locals
+  pub task_awaits : List (List ℕ)
+  pub scheme : Option SchemeText
+  -- the local that a `let` makes
+  pub made : Option (List ℕ)
+  -- the locals that it uses
+  pub used : List (List ℕ)
+  -- by the lengths of these: whether they fit, and how long the local is that is made
+  pub fits : List ℕ → Bool
+  pub len : List ℕ → ℕ
+  -- by the numbers of these: the planned step of a `let`
+  pub step : List ℕ → Option Step
+  -- the promise that a `put` puts, and the await that a `drop` drops
+  pub put_to : Option (List ℕ)
+  pub dropped : Option (List ℕ)
+  -- the promise that a check judges, and the awaits that it reads
+  pub checked : Option (List ℕ)
+  pub inputs : List (List ℕ)
+
+abbrev pub nothing : Facets
+nothing = record {
+  built = true;
+  turn = Stays;
+  declared = None;
+  promised = None;
+  awaited = [];
+  task_awaits = [];
+  scheme = None;
+  made = None;
+  used = [];
+  fits = λ ls. true;
+  len = λ ls. 0;
+  step = λ ns. None;
+  put_to = None;
+  dropped = None;
+  checked = None;
+  inputs = [];
+}
+
+-- a form that is not planned yet
+abbrev pub not_built : Facets → Facets
+not_built f = record f { built = false }
+
+-- a `let`: its name, the locals that it uses, whether their lengths fit, its length by theirs, and its step by their numbers
+abbrev pub makes : List ℕ → List (List ℕ) → (List ℕ → Bool) → (List ℕ → ℕ) → (List ℕ → Step) → Facets
+makes x used fits len step = record nothing { made = Some x; used = used; fits = fits; len = len; step = λ ns. Some (step ns) }
+
+abbrev pub checks : List ℕ → List (List ℕ) → Facets
+checks promise inputs = record nothing { checked = Some promise; inputs = inputs }
+
+abbrev pub first : List ℕ → ℕ
+first ns = slice_index ns 0
+
+abbrev pub second : List ℕ → ℕ
+second ns = slice_index ns 1
+
+abbrev pub always : List ℕ → Bool
+always ls = true
+
+abbrev pub one_word : List ℕ → ℕ
+one_word ls = 1
+
+abbrev pub are_equal : List ℕ → Bool
+are_equal ls = first ls == second ls
+
+-- `cols` words in the north and the south, one for each row in the west and the east, and rows of `cols` words
+abbrev pub are_sides : ℕ → List ℕ → Bool
+are_sides cols ls = slice_index ls 0 == cols && (slice_index ls 1 == cols && (slice_index ls 2 == slice_index ls 3 && slice_index ls 2 * cols == slice_index ls 4))
+
+-- a task with one attempt and no checks
+abbrev pub is_plain : SchemeText → Bool
+is_plain Plain = true
+is_plain Replicate = false
+is_plain (Replay limit) = false
+is_plain Abft = false
+
+unfoldable pub facets : Statement → Facets
+facets (text.Promise name len temp) = record nothing { declared = Some name; promised = Some (declared_promise name len temp false) }
+facets (text.Matrix name rows cols) = not_built (record nothing { turn = Opens; declared = Some name })
+facets (text.Row columns values) = not_built nothing
+facets (text.Task name scheme awaits) = record nothing { built = is_plain scheme; turn = Opens; declared = Some name; awaited = awaits; task_awaits = awaits; scheme = Some scheme }
+facets (text.Finish name) = not_built (record nothing { turn = Opens; declared = Some name; promised = Some (declared_promise name 3 false true) })
+facets (text.Group name awaits) = not_built (record nothing { turn = Opens; declared = Some name; awaited = awaits })
+facets text.End = record nothing { turn = Closes }
+facets (text.LetLit x words) = makes x [] always (λ ls. length words) (λ ns. steps.Lit words)
+facets (text.LetGen x n start limit) = makes x [] always (λ ls. n) (λ ns. steps.Gen n start limit)
+facets (text.LetAdd x a b) = makes x (a ∷ b ∷ []) are_equal first (λ ns. steps.Add (first ns) (second ns))
+facets (text.LetSub x a b) = makes x (a ∷ b ∷ []) are_equal first (λ ns. steps.Sub (first ns) (second ns))
+facets (text.LetMul x a b) = makes x (a ∷ b ∷ []) are_equal first (λ ns. steps.Mul (first ns) (second ns))
+facets (text.LetScale x a k) = makes x (a ∷ []) always first (λ ns. steps.Scale (first ns) k)
+facets (text.LetShift x a s) = makes x (a ∷ []) always first (λ ns. steps.Shift (first ns) s)
+facets (text.LetCut x a from len) = makes x (a ∷ []) (λ ls. nat_le (from + len) (first ls)) (λ ls. len) (λ ns. steps.Cut (first ns) from len)
+facets (text.LetJoin x parts) = makes x parts always sum steps.Join
+facets (text.LetSum x a) = makes x (a ∷ []) always one_word (λ ns. steps.Sum (first ns))
+facets (text.LetCount x a) = makes x (a ∷ []) always one_word (λ ns. steps.Count (first ns))
+facets (text.LetStencil1 x l m r k s) = not_built (makes x (l ∷ m ∷ r ∷ []) always second (λ ns. steps.Stencil1 (first ns) (second ns) (slice_index ns 2) k s))
+facets (text.LetStencil2 x north south west east m cols k s) = not_built (makes x (north ∷ south ∷ west ∷ east ∷ m ∷ []) (are_sides cols) (λ ls. slice_index ls 4)
+    (λ ns. steps.Stencil2 (first ns) (second ns) (slice_index ns 2) (slice_index ns 3) (slice_index ns 4) cols k s))
+facets (text.LetProduct x a v) = not_built (record nothing { made = Some x; used = v ∷ [] })
+facets (text.Put promise local when) = record nothing { used = local ∷ option_to_list when; fits = λ ls. list_all (λ n. n == 1) (drop 1 ls); put_to = Some promise }
+facets (text.DropAwait promise) = record nothing { dropped = Some promise }
+facets (text.CheckRange promise lo hi) = not_built (checks promise [])
+facets (text.CheckTotal promise total) = not_built (checks promise [])
+facets (text.CheckLinear promise base inputs factors) = not_built (checks promise inputs)
+facets (text.CheckConserve promise l m r k s) = not_built (checks promise (l ∷ m ∷ r ∷ []))
+facets (text.CheckConserve2 promise north south west east m cols k s) = not_built (checks promise (north ∷ south ∷ west ∷ east ∷ m ∷ []))
+facets (text.CheckProduct promise a q) = not_built (checks promise (q ∷ []))
+facets (text.CheckUser promise check) = not_built (checks promise [])

@@ -1,0 +1,20 @@
+-- What the grammar's limits give of a statement alone.
+use Rattle.std.specs.Prelude.{ℕ, ◌≤◌, ◌<◌, ◌^◌, ⊤, length}
+use Rattle.std.specs.List.{AllByRecursion}
+use Rattle.rh_words.specs.declared.limits.TheConstants.{MAX_PROMISE_WORDS, MAX_AWAITS, MAX_SHIFT, MAX_PARTS}
+use Rattle.rh_task_text.specs.declared.statement.Statement.{Statement}
+use Rattle.rh_task_text.specs.declared.statement.Statement.TheVariants.{Promise, Task, Group, LetLit, LetGen, LetShift, LetCut, LetJoin, LetStencil1, LetStencil2}
+
+-- the numbers and lists of the statement are within the limits of the grammar
+abbrev pub IsWithinLimits : Statement → Type 0
+IsWithinLimits (Promise name len temp) = (1 ≤ len) × (len ≤ MAX_PROMISE_WORDS)
+IsWithinLimits (Task name scheme awaits) = length awaits ≤ MAX_AWAITS
+IsWithinLimits (Group name awaits) = length awaits ≤ MAX_AWAITS
+IsWithinLimits (LetLit x words) = (0 < length words) × (length words ≤ MAX_PROMISE_WORDS) × AllByRecursion (λ w. w < 2 ^ 64) words
+IsWithinLimits (LetGen x n start limit) = (0 < n) × (n ≤ MAX_PROMISE_WORDS) × (0 < limit)
+IsWithinLimits (LetShift x a s) = s ≤ MAX_SHIFT
+IsWithinLimits (LetCut x a from len) = 0 < len
+IsWithinLimits (LetJoin x parts) = (0 < length parts) × (length parts ≤ MAX_PARTS)
+IsWithinLimits (LetStencil1 x l m r k s) = s ≤ MAX_SHIFT
+IsWithinLimits (LetStencil2 x north south west east m cols k s) = (0 < cols) × (s ≤ MAX_SHIFT)
+IsWithinLimits s = ⊤

@@ -1,0 +1,18 @@
+//! What a plan is made of, what planning asks of the statements of a text, and its rules.
+//! The definitions in specs/ say it all: one row a form (`Facets`), what the lines above say (`Above`), the rules (`Rules`)
+//! and what holds of every plan (`Lawful`). The code has the data, and the rows as functions.
+#![tactic(auto)]
+
+mod body;
+mod checks;
+mod facets;
+mod local;
+mod node;
+mod numbers;
+
+pub use body::{Body, Step};
+pub use checks::{CheckList, PlannedCheck};
+pub use facets::{fits, list_used, made, made_len, step_of};
+pub use local::{Local, place_of};
+pub use node::{Kind, Node, PlannedPromise, Scheme};
+pub use numbers::Numbers;

@@ -1,0 +1,4 @@
+pub mod Voting
+pub mod Table
+pub mod Checking
+pub mod Judges

@@ -1,0 +1,518 @@
+//! The table of forms.
+
+ghost use Rattle.std.specs.Prelude.{◌≡◌, ◌∷◌, [], ℕ, List};
+ghost use Rattle.rh_task_text.specs.Forms.{form, kinds, awaiting};
+ghost use Rattle.rh_task_text.specs.FormRows.{IsForm, HasParts};
+ghost use Rattle.rh_task_text.specs.LineReasons.{kind_chosen, kind_among};
+
+use crate::form::{FormKind, Standing};
+use Keyword::{
+    AbftWord, AddWord, AwaitWord, CheckWord, Conserve2Word, ConserveWord, CountWord, CutWord,
+    DropWord, EndWord, FinishWord, GenWord, GroupWord, JoinWord, LetWord, LinearWord, LitWord,
+    MatrixWord, MulWord, PlainWord, ProductWord, PromiseWord, PutWord, RangeWord, ReplayWord,
+    ReplicateWord, RowWord, ScaleWord, ShiftWord, Stencil1Word, Stencil2Word, SubWord, SumWord,
+    TaskWord, TempWord, TotalWord, UserWord, WhenWord,
+};
+use Place::{NamePlace, NumberPlace, PairPlace, WordPlace};
+use rh_words::{Keyword, Place};
+
+/// What a line of a form has: first the words that choose the form; then all places, what follows them where the line
+/// does not end, and what follows that, any number of times.
+#[derive(Clone, Copy)]
+pub struct Form {
+    pub standing: Standing,
+    pub first: Keyword,
+    pub choice: &'static [Place],
+    pub places: &'static [Place],
+    pub more: &'static [Place],
+    pub again: &'static [Place],
+}
+
+/// The row of the table.
+pub fn form_of(kind: FormKind) -> Form
+    ensures { IsForm result (form kind) }
+{
+    match kind {
+        FormKind::PromiseForm => Form {
+            standing: Standing::Outside,
+            first: PromiseWord,
+            choice: &[WordPlace(PromiseWord)],
+            places: &[WordPlace(PromiseWord), NamePlace, NumberPlace],
+            more: &[WordPlace(TempWord)],
+            again: &[],
+        },
+        FormKind::MatrixForm => a_form(
+            Standing::Outside,
+            MatrixWord,
+            &[WordPlace(MatrixWord)],
+            &[WordPlace(MatrixWord), NamePlace, NumberPlace, NumberPlace],
+        ),
+        FormKind::RowForm => Form {
+            standing: Standing::InMatrix,
+            first: RowWord,
+            choice: &[WordPlace(RowWord)],
+            places: &[WordPlace(RowWord)],
+            more: &[PairPlace],
+            again: &[PairPlace],
+        },
+        FormKind::PlainForm => awaiting(
+            TaskWord,
+            &[WordPlace(TaskWord), NamePlace, WordPlace(PlainWord)],
+            &[WordPlace(TaskWord), NamePlace, WordPlace(PlainWord)],
+        ),
+        FormKind::ReplicateForm => awaiting(
+            TaskWord,
+            &[WordPlace(TaskWord), NamePlace, WordPlace(ReplicateWord)],
+            &[WordPlace(TaskWord), NamePlace, WordPlace(ReplicateWord)],
+        ),
+        FormKind::ReplayForm => awaiting(
+            TaskWord,
+            &[WordPlace(TaskWord), NamePlace, WordPlace(ReplayWord)],
+            &[
+                WordPlace(TaskWord),
+                NamePlace,
+                WordPlace(ReplayWord),
+                NumberPlace,
+            ],
+        ),
+        FormKind::AbftForm => awaiting(
+            TaskWord,
+            &[WordPlace(TaskWord), NamePlace, WordPlace(AbftWord)],
+            &[WordPlace(TaskWord), NamePlace, WordPlace(AbftWord)],
+        ),
+        FormKind::FinishForm => a_form(
+            Standing::Outside,
+            FinishWord,
+            &[WordPlace(FinishWord)],
+            &[WordPlace(FinishWord), NamePlace],
+        ),
+        FormKind::GroupForm => awaiting(
+            GroupWord,
+            &[WordPlace(GroupWord)],
+            &[WordPlace(GroupWord), NamePlace],
+        ),
+        FormKind::EndForm => a_form(
+            Standing::Anywhere,
+            EndWord,
+            &[WordPlace(EndWord)],
+            &[WordPlace(EndWord)],
+        ),
+        FormKind::LitForm => in_task(
+            LetWord,
+            &[WordPlace(LetWord), NamePlace, WordPlace(LitWord)],
+            &[
+                WordPlace(LetWord),
+                NamePlace,
+                WordPlace(LitWord),
+                NumberPlace,
+            ],
+            &[NumberPlace],
+        ),
+        FormKind::GenForm => in_task(
+            LetWord,
+            &[WordPlace(LetWord), NamePlace, WordPlace(GenWord)],
+            &[
+                WordPlace(LetWord),
+                NamePlace,
+                WordPlace(GenWord),
+                NumberPlace,
+                NumberPlace,
+                NumberPlace,
+            ],
+            &[],
+        ),
+        FormKind::AddForm => in_task(
+            LetWord,
+            &[WordPlace(LetWord), NamePlace, WordPlace(AddWord)],
+            &[
+                WordPlace(LetWord),
+                NamePlace,
+                WordPlace(AddWord),
+                NamePlace,
+                NamePlace,
+            ],
+            &[],
+        ),
+        FormKind::SubForm => in_task(
+            LetWord,
+            &[WordPlace(LetWord), NamePlace, WordPlace(SubWord)],
+            &[
+                WordPlace(LetWord),
+                NamePlace,
+                WordPlace(SubWord),
+                NamePlace,
+                NamePlace,
+            ],
+            &[],
+        ),
+        FormKind::MulForm => in_task(
+            LetWord,
+            &[WordPlace(LetWord), NamePlace, WordPlace(MulWord)],
+            &[
+                WordPlace(LetWord),
+                NamePlace,
+                WordPlace(MulWord),
+                NamePlace,
+                NamePlace,
+            ],
+            &[],
+        ),
+        FormKind::ScaleForm => in_task(
+            LetWord,
+            &[WordPlace(LetWord), NamePlace, WordPlace(ScaleWord)],
+            &[
+                WordPlace(LetWord),
+                NamePlace,
+                WordPlace(ScaleWord),
+                NamePlace,
+                NumberPlace,
+            ],
+            &[],
+        ),
+        FormKind::ShiftForm => in_task(
+            LetWord,
+            &[WordPlace(LetWord), NamePlace, WordPlace(ShiftWord)],
+            &[
+                WordPlace(LetWord),
+                NamePlace,
+                WordPlace(ShiftWord),
+                NamePlace,
+                NumberPlace,
+            ],
+            &[],
+        ),
+        FormKind::CutForm => in_task(
+            LetWord,
+            &[WordPlace(LetWord), NamePlace, WordPlace(CutWord)],
+            &[
+                WordPlace(LetWord),
+                NamePlace,
+                WordPlace(CutWord),
+                NamePlace,
+                NumberPlace,
+                NumberPlace,
+            ],
+            &[],
+        ),
+        FormKind::JoinForm => in_task(
+            LetWord,
+            &[WordPlace(LetWord), NamePlace, WordPlace(JoinWord)],
+            &[
+                WordPlace(LetWord),
+                NamePlace,
+                WordPlace(JoinWord),
+                NamePlace,
+            ],
+            &[NamePlace],
+        ),
+        FormKind::SumForm => in_task(
+            LetWord,
+            &[WordPlace(LetWord), NamePlace, WordPlace(SumWord)],
+            &[WordPlace(LetWord), NamePlace, WordPlace(SumWord), NamePlace],
+            &[],
+        ),
+        FormKind::CountForm => in_task(
+            LetWord,
+            &[WordPlace(LetWord), NamePlace, WordPlace(CountWord)],
+            &[
+                WordPlace(LetWord),
+                NamePlace,
+                WordPlace(CountWord),
+                NamePlace,
+            ],
+            &[],
+        ),
+        FormKind::Stencil1Form => in_task(
+            LetWord,
+            &[WordPlace(LetWord), NamePlace, WordPlace(Stencil1Word)],
+            &[
+                WordPlace(LetWord),
+                NamePlace,
+                WordPlace(Stencil1Word),
+                NamePlace,
+                NamePlace,
+                NamePlace,
+                NumberPlace,
+                NumberPlace,
+            ],
+            &[],
+        ),
+        FormKind::Stencil2Form => in_task(
+            LetWord,
+            &[WordPlace(LetWord), NamePlace, WordPlace(Stencil2Word)],
+            &[
+                WordPlace(LetWord),
+                NamePlace,
+                WordPlace(Stencil2Word),
+                NamePlace,
+                NamePlace,
+                NamePlace,
+                NamePlace,
+                NamePlace,
+                NumberPlace,
+                NumberPlace,
+                NumberPlace,
+            ],
+            &[],
+        ),
+        FormKind::ProductForm => in_task(
+            LetWord,
+            &[WordPlace(LetWord), NamePlace, WordPlace(ProductWord)],
+            &[
+                WordPlace(LetWord),
+                NamePlace,
+                WordPlace(ProductWord),
+                NamePlace,
+                NamePlace,
+            ],
+            &[],
+        ),
+        FormKind::PutForm => Form {
+            standing: Standing::InTask,
+            first: PutWord,
+            choice: &[WordPlace(PutWord)],
+            places: &[WordPlace(PutWord), NamePlace, NamePlace],
+            more: &[WordPlace(WhenWord), NamePlace],
+            again: &[],
+        },
+        FormKind::DropForm => a_form(
+            Standing::InTask,
+            DropWord,
+            &[WordPlace(DropWord)],
+            &[WordPlace(DropWord), NamePlace],
+        ),
+        FormKind::RangeForm => in_task(
+            CheckWord,
+            &[WordPlace(CheckWord), WordPlace(RangeWord)],
+            &[
+                WordPlace(CheckWord),
+                WordPlace(RangeWord),
+                NamePlace,
+                NumberPlace,
+                NumberPlace,
+            ],
+            &[],
+        ),
+        FormKind::TotalForm => in_task(
+            CheckWord,
+            &[WordPlace(CheckWord), WordPlace(TotalWord)],
+            &[
+                WordPlace(CheckWord),
+                WordPlace(TotalWord),
+                NamePlace,
+                NumberPlace,
+            ],
+            &[],
+        ),
+        FormKind::LinearForm => in_task(
+            CheckWord,
+            &[WordPlace(CheckWord), WordPlace(LinearWord)],
+            &[
+                WordPlace(CheckWord),
+                WordPlace(LinearWord),
+                NamePlace,
+                NumberPlace,
+                NamePlace,
+                NumberPlace,
+            ],
+            &[NamePlace, NumberPlace],
+        ),
+        FormKind::ConserveForm => in_task(
+            CheckWord,
+            &[WordPlace(CheckWord), WordPlace(ConserveWord)],
+            &[
+                WordPlace(CheckWord),
+                WordPlace(ConserveWord),
+                NamePlace,
+                NamePlace,
+                NamePlace,
+                NamePlace,
+                NumberPlace,
+                NumberPlace,
+            ],
+            &[],
+        ),
+        FormKind::Conserve2Form => in_task(
+            CheckWord,
+            &[WordPlace(CheckWord), WordPlace(Conserve2Word)],
+            &[
+                WordPlace(CheckWord),
+                WordPlace(Conserve2Word),
+                NamePlace,
+                NamePlace,
+                NamePlace,
+                NamePlace,
+                NamePlace,
+                NamePlace,
+                NumberPlace,
+                NumberPlace,
+                NumberPlace,
+            ],
+            &[],
+        ),
+        FormKind::ProductCheckForm => in_task(
+            CheckWord,
+            &[WordPlace(CheckWord), WordPlace(ProductWord)],
+            &[
+                WordPlace(CheckWord),
+                WordPlace(ProductWord),
+                NamePlace,
+                NamePlace,
+                NamePlace,
+            ],
+            &[],
+        ),
+        FormKind::UserForm => in_task(
+            CheckWord,
+            &[WordPlace(CheckWord), WordPlace(UserWord)],
+            &[
+                WordPlace(CheckWord),
+                WordPlace(UserWord),
+                NamePlace,
+                NamePlace,
+            ],
+            &[],
+        ),
+    }
+}
+
+/// A form whose line ends after its places.
+fn a_form(
+    standing: Standing,
+    first: Keyword,
+    choice: &'static [Place],
+    places: &'static [Place],
+) -> Form
+    ensures { HasParts result standing first choice.now places.now [] [] }
+{
+    Form {
+        standing,
+        first,
+        choice,
+        places,
+        more: &[],
+        again: &[],
+    }
+}
+
+/// A block that awaits promises.
+fn awaiting(first: Keyword, choice: &'static [Place], places: &'static [Place]) -> Form
+    ensures { HasParts result Standing.Outside first choice.now places.now awaiting (Place.NamePlace ∷ []) }
+{
+    Form {
+        standing: Standing::Outside,
+        first,
+        choice,
+        places,
+        more: &[WordPlace(AwaitWord), NamePlace],
+        again: &[NamePlace],
+    }
+}
+
+/// A line of a task.
+fn in_task(
+    first: Keyword,
+    choice: &'static [Place],
+    places: &'static [Place],
+    again: &'static [Place],
+) -> Form
+    ensures { HasParts result Standing.InTask first choice.now places.now again.now again.now }
+{
+    Form {
+        standing: Standing::InTask,
+        first,
+        choice,
+        places,
+        more: again,
+        again,
+    }
+}
+
+/// The rows in their order.
+pub fn kinds() -> &'static [FormKind]
+    ensures { result.now ≡ kinds }
+{
+    &[
+        FormKind::PromiseForm,
+        FormKind::MatrixForm,
+        FormKind::RowForm,
+        FormKind::PlainForm,
+        FormKind::ReplicateForm,
+        FormKind::ReplayForm,
+        FormKind::AbftForm,
+        FormKind::FinishForm,
+        FormKind::GroupForm,
+        FormKind::EndForm,
+        FormKind::LitForm,
+        FormKind::GenForm,
+        FormKind::AddForm,
+        FormKind::SubForm,
+        FormKind::MulForm,
+        FormKind::ScaleForm,
+        FormKind::ShiftForm,
+        FormKind::CutForm,
+        FormKind::JoinForm,
+        FormKind::SumForm,
+        FormKind::CountForm,
+        FormKind::Stencil1Form,
+        FormKind::Stencil2Form,
+        FormKind::ProductForm,
+        FormKind::PutForm,
+        FormKind::DropForm,
+        FormKind::RangeForm,
+        FormKind::TotalForm,
+        FormKind::LinearForm,
+        FormKind::ConserveForm,
+        FormKind::Conserve2Form,
+        FormKind::ProductCheckForm,
+        FormKind::UserForm,
+    ]
+}
+
+/// The rows whose lines begin with this byte, in their order, or all rows where none does.
+#[tactic(auto, unfolding(crate::specs::LineReasons::kind_chosen))]
+pub fn kinds_from(byte: u8) -> &'static [FormKind]
+    ensures { (bs : List ℕ) (ws : List (List ℕ)) → kind_chosen ((byte ∷ bs) ∷ ws) ≡ kind_among result.now ((byte ∷ bs) ∷ ws) }
+{
+    match byte {
+        b'c' => &[
+            FormKind::RangeForm,
+            FormKind::TotalForm,
+            FormKind::LinearForm,
+            FormKind::ConserveForm,
+            FormKind::Conserve2Form,
+            FormKind::ProductCheckForm,
+            FormKind::UserForm,
+        ],
+        b'd' => &[FormKind::DropForm],
+        b'e' => &[FormKind::EndForm],
+        b'f' => &[FormKind::FinishForm],
+        b'g' => &[FormKind::GroupForm],
+        b'l' => &[
+            FormKind::LitForm,
+            FormKind::GenForm,
+            FormKind::AddForm,
+            FormKind::SubForm,
+            FormKind::MulForm,
+            FormKind::ScaleForm,
+            FormKind::ShiftForm,
+            FormKind::CutForm,
+            FormKind::JoinForm,
+            FormKind::SumForm,
+            FormKind::CountForm,
+            FormKind::Stencil1Form,
+            FormKind::Stencil2Form,
+            FormKind::ProductForm,
+        ],
+        b'm' => &[FormKind::MatrixForm],
+        b'p' => &[FormKind::PromiseForm, FormKind::PutForm],
+        b'r' => &[FormKind::RowForm],
+        b't' => &[
+            FormKind::PlainForm,
+            FormKind::ReplicateForm,
+            FormKind::ReplayForm,
+            FormKind::AbftForm,
+        ],
+        _ => kinds(),
+    }
+}

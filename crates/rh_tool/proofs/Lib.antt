@@ -1,5 +1,0 @@
--- Lemmas of this crate.
-pub mod Accepting
-pub mod Ending
-pub mod Exact
-pub mod Printing

@@ -1,5 +1,0 @@
-pub mod Running
-pub mod Reporting
-pub mod Command
-pub mod Promise
-pub mod Ends

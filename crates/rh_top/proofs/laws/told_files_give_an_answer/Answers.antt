@@ -1,0 +1,8 @@
+use Rattle.rh_top.proofs.SomeAnswer.{some_answer, absent_program}
+use Rattle.rh_top.proofs.laws.told_files_give_an_answer.Goals as goal
+
+pub returns-clause-told : goal.returns-clause-told
+returns-clause-told c = some_answer
+
+pub returns-clause-no_program : goal.returns-clause-no_program
+returns-clause-no_program c = absent_program

@@ -1,0 +1,126 @@
+//! A call of the program, from its words to its status.
+
+ghost use Rattle.std.specs.Prelude.{◌≡◌, IfOk, codes, map};
+ghost use Rattle.std.specs.String.{string_bytes};
+ghost use Rattle.rh_top.specs.Answer.{refusal_line};
+ghost use Rattle.rh_top.specs.Promise.{KeepsPromise, Tells, Says, call_of, status_number};
+ghost use Rattle.rh_top.specs.CallSteps.{Delivers, IsToldOf, refusal_of};
+
+use crate::command::read_command;
+use crate::printing::print_labelled;
+use crate::status::Status;
+use crate::texts::{Stop, compose};
+use rh_outside::{Shelf, Sink, WriteAnswer, write_all};
+use rh_words::{Bytes, OutOfMemory, Refusal};
+use std::alloc::Global;
+
+/// Does what the words say, and answers the exit status. The words are those after the program's name. The whole text is
+/// composed before its first byte is written on `out`.
+pub fn top<S: Shelf, O: Sink, E: Sink>(
+    alloc: Global,
+    words: &[String],
+    shelf: &mut S,
+    out: &mut O,
+    err: &mut E,
+) -> u8
+    ensures { KeepsPromise (call_of (map string_bytes words.now)
+        (S.state shelf.old) (S.state shelf.new) (O.state out.old) (O.state out.new)
+        (E.state err.old) (E.state err.new)) result }
+{
+    obey(alloc, words, shelf, out, err).number()
+}
+
+/// Tells that memory was wanting before the words could be read, and answers the exit status.
+pub fn want_memory<E: Sink>(err: &mut E) -> u8
+    ensures number { result ≡ status_number Status.OutOfMemory }
+    ensures said { Says (E.state err.old) (E.state err.new) (codes "rh: out of memory\n") }
+{
+    no_memory(err).number()
+}
+
+/// Does what the words say.
+fn obey<S: Shelf, O: Sink, E: Sink>(
+    alloc: Global,
+    words: &[String],
+    files: &mut S,
+    out: &mut O,
+    err: &mut E,
+) -> Status
+    ensures { Tells (call_of (map string_bytes words.now)
+        (S.state files.old) (S.state files.new) (O.state out.old) (O.state out.new)
+        (E.state err.old) (E.state err.new)) result }
+{
+    let Some(command) = read_command(words) else {
+        say(err, b"rh: bad words\n");
+        return Status::BadWords;
+    };
+    match compose(alloc, &command, files) {
+        Ok(text) => deliver(&text, out, err),
+        Err(stop) => tell(alloc, stop, err),
+    }
+}
+
+/// Writes the text on the output.
+fn deliver<O: Sink, E: Sink>(text: &Bytes, out: &mut O, err: &mut E) -> Status
+    ensures { Delivers text.now
+        (O.state out.old) (O.state out.new) (E.state err.old) (E.state err.new) result }
+{
+    if write_all(out, text.as_slice()) == WriteAnswer::Failed {
+        say(err, b"rh: out failed\n");
+        return Status::OutputFailed;
+    }
+    Status::Done
+}
+
+/// Tells on `err` why there is no text.
+fn tell<E: Sink>(alloc: Global, stop: Stop, err: &mut E) -> Status
+    ensures { IsToldOf (E.state err.old) (E.state err.new) stop result }
+{
+    match stop {
+        Stop::ProgramRefused(refusal) => match print_refusal(alloc, "program", refusal) {
+            Ok(line) => {
+                say(err, line.as_slice());
+                Status::ProgramRefused
+            }
+            Err(OutOfMemory) => no_memory(err),
+        },
+        Stop::ReadFailed => {
+            say(err, b"rh: shelf failed\n");
+            Status::StoreFailed
+        }
+        Stop::OutOfMemory => no_memory(err),
+    }
+}
+
+/// Tells on `err` that memory is wanting.
+fn no_memory<E: Sink>(err: &mut E) -> Status
+    ensures status { result ≡ Status.OutOfMemory }
+    ensures said { Says (E.state err.old) (E.state err.new) (codes "rh: out of memory\n") }
+{
+    say(err, b"rh: out of memory\n");
+    Status::OutOfMemory
+}
+
+/// Writes a line on `err`. That it cannot be written, or only in part, changes nothing else.
+fn say<E: Sink>(err: &mut E, line: &[u8])
+    ensures { Says (E.state err.old) (E.state err.new) line.now }
+{
+    let _ = write_all(err, line);
+}
+
+/// The line that tells of a refused text, which is a program.
+#[tactic(auto, using(std::proofs::Common::append_assoc), unfolding(crate::specs::Answer::refusal_line))]
+fn print_refusal(alloc: Global, which: &str, refusal: Refusal) -> Result<Bytes, OutOfMemory>
+    ensures { IfOk result (λ line. line ≡ refusal_line which.now (refusal_of refusal)) }
+{
+    let mut line = Bytes::new(alloc);
+    line.append(b"rh: ")?;
+    line.append(which.as_bytes())?;
+    print_labelled(alloc, b" line ", u64::from(refusal.line), &mut line)?;
+    let number = u64::from(refusal.reason.number());
+    print_labelled(alloc, b" reason ", number, &mut line)?;
+    line.append(b" ")?;
+    line.append(refusal.reason.name().as_bytes())?;
+    line.append(b"\n")?;
+    Ok(line)
+}

@@ -1,0 +1,20 @@
+-- A name as four numbers.
+use Rattle.std.specs.Prelude.{ℕ, ◌-◌, List, ◌++◌, length, take, drop, replicate}
+use Rattle.std.specs.Int.{from_be_bytes, w64}
+use Rattle.rh_words.specs.declared.name_key.NameKey.{NameKey}
+
+-- the name with bytes of 0 behind it, 32 in all
+abbrev pub padded_name : List ℕ → List ℕ
+padded_name name = name ++ replicate (32 - length name) 0
+
+-- the number that eight of the bytes are, the first the highest
+abbrev pub key_word : List ℕ → ℕ → ℕ
+key_word bytes at = from_be_bytes w64 (take 8 (drop at bytes))
+
+-- the key of 32 bytes
+abbrev pub key_of : List ℕ → NameKey
+key_of bytes = record { first = key_word bytes 0; second = key_word bytes 8; third = key_word bytes 16; fourth = key_word bytes 24 }
+
+-- the key of a name
+abbrev pub name_key : List ℕ → NameKey
+name_key name = key_of (padded_name name)

@@ -1,0 +1,250 @@
+//! The words of a line in their places.
+
+ghost use Rattle.std.specs.Prelude.{◌≡◌, ◌<◌, ◌++◌, ◌∷◌, [], Some, None, IfOk, OnOk, MatchBool, length, if◌then◌else◌};
+ghost use Rattle.std.specs.Option.{option_map};
+ghost use Rattle.rh_words.specs.Text.{words_of};
+ghost use Rattle.rh_words.specs.Values.{SayWords};
+ghost use Rattle.rh_words.specs.Places.{agrees, places_reason, passes_word, first_reason, FitPlaces};
+ghost use Rattle.rh_words.specs.PlaceWalks.{places, next_place, may_end, ToldBy, IsNothingTold};
+ghost use Rattle.rh_words.specs.Refusals.{OnRefused};
+
+use crate::keyword::keyword_text;
+use crate::lines::LineWords;
+use crate::name::Name;
+use crate::number::read_number;
+use crate::reason::{Fault, OutOfMemory, Reason};
+use crate::value::{Place, Value, read_pair};
+use std::alloc::Global;
+use std::marker::Model;
+
+/// The places of the words of a line that come next.
+#[derive(Drop)]
+pub struct PlaceWalk {
+    here: &'static [Place],
+    more: &'static [Place],
+    again: &'static [Place],
+}
+
+impl Model for PlaceWalk {
+    ghost use Rattle.rh_words.specs.PlaceWalks.{Places, places};
+
+    ghost Value = { Places };
+
+    ghost view = { λ p. places p.here.now p.more.now p.again.now };
+}
+
+impl PlaceWalk {
+    /// The places `here` one by one. Then the words end, or those of `more` follow, and after them those of `again`, any
+    /// number of times.
+    pub fn of(here: &'static [Place], more: &'static [Place], again: &'static [Place]) -> PlaceWalk
+        ensures { result ≡ places here.now more.now again.now }
+    {
+        PlaceWalk { here, more, again }
+    }
+
+    /// Whether the words may end here.
+    pub fn may_end(&self) -> bool
+        ensures { result ≡ may_end self.now }
+    {
+        self.here.is_empty()
+    }
+
+    /// The next place.
+    pub fn next(&mut self) -> Option<Place>
+        ensures { next_place self.old ≡ option_map (λ p. (p, self.new)) result }
+    {
+        if self.here.is_empty() {
+            if self.more.is_empty() {
+                return None;
+            }
+            let place = self.more[0];
+            self.here = &self.more[1..];
+            self.more = self.again;
+            return Some(place);
+        }
+        let place = self.here[0];
+        self.here = &self.here[1..];
+        Some(place)
+    }
+}
+
+/// What words told: values as long as there are few, and whether names, numbers and other words were as they should be.
+#[derive(Drop)]
+struct Told {
+    values: Vec<Value>,
+    names: bool,
+    numbers: bool,
+    words: bool,
+    few: bool,
+}
+
+impl Told {
+    /// One more word, in this place. Fewer than `most` values are kept.
+    fn tell(&mut self, most: usize, place: Place, word: &[u8]) -> Result<(), OutOfMemory>
+        ensures { OnOk result (ToldBy most self.old.names self.old.numbers self.old.words self.old.few self.old.values.items place word.now
+            self.new.names self.new.numbers self.new.words self.new.few self.new.values.items) }
+    {
+        self.few = self.few && self.values.len() < most;
+        match place {
+            Place::WordPlace(keyword) => {
+                if word == keyword_text(keyword) {
+                    keep(&mut self.values, self.few, Value::AWord(keyword))?;
+                } else {
+                    self.words = false;
+                }
+            }
+            Place::NamePlace => match Name::read(word) {
+                Some(name) => keep(&mut self.values, self.few, Value::AName(name))?,
+                None => self.names = false,
+            },
+            Place::NumberPlace => match read_number(word) {
+                Ok(number) => keep(&mut self.values, self.few, Value::ANumber(number))?,
+                Err(_) => self.numbers = false,
+            },
+            Place::MaskPlace => match read_number(word) {
+                Ok(number) => keep(&mut self.values, self.few, Value::AMask(number))?,
+                Err(_) => self.numbers = false,
+            },
+            Place::PairPlace => match read_pair(word) {
+                Some((first, second)) => keep(
+                    &mut self.values,
+                    self.few,
+                    Value::APair(first, second),
+                )?,
+                None => self.numbers = false,
+            },
+        }
+        Ok(())
+    }
+
+    /// Reads the words of a line, which stand in these places.
+    fn read(&mut self, places: PlaceWalk, most: usize, line: &[u8]) -> Result<bool, Fault<Reason>>
+        requires { IsNothingTold self.old.names self.old.numbers self.old.words self.old.few self.old.values.items }
+        ensures ok { IfOk result (λ kept. MatchBool kept
+            (SayWords (words_of line.now) self.new.values.items × FitPlaces places.here places.more places.again self.new.values.items)
+            ((places_reason places.here places.more places.again (words_of line.now) ≡ None) × (most < length (words_of line.now)))) }
+        ensures refused { OnRefused result (λ reason. places_reason places.here places.more places.again (words_of line.now) ≡ Some reason) }
+    {
+        let mut words = LineWords::of(line);
+        let mut left = places;
+        while let Some(word) = words.next() {
+            let Some(place) = left.next() else {
+                return Err(Fault::Refused(first_reason(self.names, self.numbers)));
+            };
+            self.tell(most, place, word)?;
+        }
+        if self.names && self.numbers && self.words && left.may_end() {
+            Ok(self.few)
+        } else {
+            Err(Fault::Refused(first_reason(self.names, self.numbers)))
+        }
+    }
+}
+
+/// Puts the value behind the others where there are few.
+fn keep(values: &mut Vec<Value>, few: bool, value: Value) -> Result<(), OutOfMemory>
+    ensures { OnOk result (values.new.items ≡ (if few then values.old.items ++ value ∷ [] else values.old.items)) }
+{
+    if few {
+        values.push(value)?;
+    }
+    Ok(())
+}
+
+/// The reason of words of which some name, else some number, else some other word or their count is wrong.
+fn first_reason(names: bool, numbers: bool) -> Reason
+    ensures { result ≡ first_reason names numbers }
+{
+    if !names {
+        Reason::BadName
+    } else if !numbers {
+        Reason::BadNumber
+    } else {
+        Reason::Count
+    }
+}
+
+/// What the words of the line say that was read last. Its memory is used again for each line.
+#[derive(Drop)]
+pub struct LineValues {
+    told: Told,
+}
+
+impl Model for LineValues {
+    ghost use Rattle.std.specs.Prelude.{List};
+    ghost use Rattle.rh_words.specs.declared.value.Value.{Value as WordValue};
+
+    ghost Value = { List WordValue };
+
+    ghost view = { λ l. l.told.values.items };
+}
+
+impl LineValues {
+    /// No line was read.
+    pub fn new(alloc: Global) -> LineValues
+        ensures { result ≡ [] }
+    {
+        LineValues {
+            told: Told {
+                values: Vec::new(alloc),
+                names: true,
+                numbers: true,
+                words: true,
+                few: true,
+            },
+        }
+    }
+
+    /// The values, one for each word.
+    pub fn as_slice(&self) -> &[Value]
+        ensures { result.now ≡ self.now }
+    {
+        self.told.values.as_slice()
+    }
+
+    /// Reads the words of a line, which stand in these places, and answers whether their values are kept: words that fit
+    /// and are more than `most` are counted alone. Else the reason is the first of 4 to 6 that holds of the words.
+    pub fn read(
+        &mut self,
+        places: PlaceWalk,
+        most: usize,
+        line: &[u8],
+    ) -> Result<bool, Fault<Reason>>
+        ensures ok { IfOk result (λ kept. MatchBool kept
+            (SayWords (words_of line.now) self.new × FitPlaces places.here places.more places.again self.new)
+            ((places_reason places.here places.more places.again (words_of line.now) ≡ None) × (most < length (words_of line.now)))) }
+        ensures refused { OnRefused result (λ reason. places_reason places.here places.more places.again (words_of line.now) ≡ Some reason) }
+    {
+        self.told.values.clear();
+        self.told.names = true;
+        self.told.numbers = true;
+        self.told.words = true;
+        self.told.few = true;
+        self.told.read(places, most, line)
+    }
+}
+
+/// Whether the words that are there agree with these places.
+pub fn agrees(choice: &[Place], words: &mut LineWords<'_>) -> bool
+    ensures { result ≡ agrees choice.now words.old }
+{
+    for place in choice {
+        let Some(word) = words.next() else {
+            return true;
+        };
+        if !is_word_at(*place, word) {
+            return false;
+        }
+    }
+    true
+}
+
+/// Whether the word is the place's own, where the place has one.
+fn is_word_at(place: Place, word: &[u8]) -> bool
+    ensures { result ≡ passes_word place word.now }
+{
+    match place {
+        Place::WordPlace(keyword) => word == keyword_text(keyword),
+        _ => true,
+    }
+}

@@ -1,0 +1,10 @@
+pub mod Layouts
+pub mod RowProducts
+pub mod PlaceSums
+pub mod Columns
+pub mod Differences
+pub mod Quotients
+pub mod RowNames
+pub mod Restoring
+pub mod Altering
+pub mod Agreeing

@@ -1,4 +1,5 @@
 -- Statements and their forms; then lines, and whole texts; then printing.
+pub mod TaskForms
 pub mod FormsOfStatements
 pub mod StatementsOfForms
 pub mod StatementLists

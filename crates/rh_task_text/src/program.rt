@@ -50,6 +50,28 @@ pub fn read_program(alloc: Global, bytes: &[u8]) -> Result<Text, Fault<Refusal>>
 fn room_for_items(bytes: &[u8]) -> usize
     ensures { result ≤ length bytes.now / 4 }
 {
-    let feeds = bytes.iter().filter(|b| **b == b'\n').count();
-    feeds.min(bytes.len() / 4)
+    line_feeds(bytes).min(bytes.len() / 4)
+}
+
+/// How many line feeds there are.
+fn line_feeds(bytes: &[u8]) -> usize {
+    let mut feeds: usize = 0;
+    let mut left = bytes;
+    while left.len() >= PIECE {
+        feeds = feeds.wrapping_add(usize::from(line_feeds_in(&left[..PIECE])));
+        left = &left[PIECE..];
+    }
+    feeds.wrapping_add(usize::from(line_feeds_in(left)))
+}
+
+/// The length of pieces that are looked at as a whole.
+const PIECE: usize = 32;
+
+/// How many line feeds a short piece has.
+fn line_feeds_in(piece: &[u8]) -> u8 {
+    let mut feeds: u8 = 0;
+    for byte in piece {
+        feeds = feeds.wrapping_add(u8::from(*byte == b'\n'));
+    }
+    feeds
 }

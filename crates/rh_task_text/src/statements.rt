@@ -1,6 +1,7 @@
 //! The statement that some values are.
 
-ghost use Rattle.std.specs.Prelude.{◌≡◌, IfOk};
+ghost use Rattle.std.specs.Prelude.{◌≡◌, ◌≢◌, [], length, IfOk};
+ghost use Rattle.rh_words.specs.declared.keyword.Keyword.TheVariants.{LetWord, CheckWord};
 ghost use Rattle.rh_words.specs.declared.value.Place.TheVariants.{NamePlace, NumberPlace};
 ghost use Rattle.rh_task_text.specs.Forms.{form};
 ghost use Rattle.rh_task_text.specs.Statements.{FitForm, States};
@@ -63,134 +64,8 @@ pub fn statement_of(
             Ok(Statement::End)
         }
         FormKind::LitForm => lit_statement(alloc, values),
-        FormKind::GenForm => {
-            let [_, x, _, n, start, limit] = values else {
-                unreachable!();
-            };
-            Ok(Statement::LetGen {
-                x: name_of(x),
-                n: number_of(n),
-                start: number_of(start),
-                limit: number_of(limit),
-            })
-        }
-        FormKind::AddForm => {
-            let [_, x, _, a, b] = values else {
-                unreachable!();
-            };
-            Ok(Statement::LetAdd {
-                x: name_of(x),
-                a: name_of(a),
-                b: name_of(b),
-            })
-        }
-        FormKind::SubForm => {
-            let [_, x, _, a, b] = values else {
-                unreachable!();
-            };
-            Ok(Statement::LetSub {
-                x: name_of(x),
-                a: name_of(a),
-                b: name_of(b),
-            })
-        }
-        FormKind::MulForm => {
-            let [_, x, _, a, b] = values else {
-                unreachable!();
-            };
-            Ok(Statement::LetMul {
-                x: name_of(x),
-                a: name_of(a),
-                b: name_of(b),
-            })
-        }
-        FormKind::ScaleForm => {
-            let [_, x, _, a, k] = values else {
-                unreachable!();
-            };
-            Ok(Statement::LetScale {
-                x: name_of(x),
-                a: name_of(a),
-                k: number_of(k),
-            })
-        }
-        FormKind::ShiftForm => {
-            let [_, x, _, a, s] = values else {
-                unreachable!();
-            };
-            Ok(Statement::LetShift {
-                x: name_of(x),
-                a: name_of(a),
-                s: number_of(s),
-            })
-        }
-        FormKind::CutForm => {
-            let [_, x, _, a, from, len] = values else {
-                unreachable!();
-            };
-            Ok(Statement::LetCut {
-                x: name_of(x),
-                a: name_of(a),
-                from: number_of(from),
-                len: number_of(len),
-            })
-        }
         FormKind::JoinForm => join_statement(alloc, values),
-        FormKind::SumForm => {
-            let [_, x, _, a] = values else {
-                unreachable!();
-            };
-            Ok(Statement::LetSum {
-                x: name_of(x),
-                a: name_of(a),
-            })
-        }
-        FormKind::CountForm => {
-            let [_, x, _, a] = values else {
-                unreachable!();
-            };
-            Ok(Statement::LetCount {
-                x: name_of(x),
-                a: name_of(a),
-            })
-        }
-        FormKind::Stencil1Form => {
-            let [_, x, _, l, m, r, k, s] = values else {
-                unreachable!();
-            };
-            Ok(Statement::LetStencil1 {
-                x: name_of(x),
-                l: name_of(l),
-                m: name_of(m),
-                r: name_of(r),
-                k: number_of(k),
-                s: number_of(s),
-            })
-        }
-        FormKind::Stencil2Form => Ok(stencil2_statement(values)),
-        FormKind::ProductForm => {
-            let [_, x, _, a, v] = values else {
-                unreachable!();
-            };
-            Ok(Statement::LetProduct {
-                x: name_of(x),
-                a: name_of(a),
-                v: name_of(v),
-            })
-        }
-        FormKind::PutForm => match values {
-            [_, promise, local] => Ok(Statement::Put {
-                promise: name_of(promise),
-                local: name_of(local),
-                when: None,
-            }),
-            [_, promise, local, _, when] => Ok(Statement::Put {
-                promise: name_of(promise),
-                local: name_of(local),
-                when: Some(name_of(when)),
-            }),
-            _ => unreachable!(),
-        },
+        FormKind::PutForm => Ok(put_statement(values)),
         FormKind::DropForm => {
             let [_, promise] = values else {
                 unreachable!();
@@ -199,59 +74,243 @@ pub fn statement_of(
                 promise: name_of(promise),
             })
         }
+        FormKind::LinearForm => linear_statement(alloc, values),
+        FormKind::AddForm
+        | FormKind::SubForm
+        | FormKind::MulForm
+        | FormKind::ScaleForm
+        | FormKind::ShiftForm
+        | FormKind::ProductForm => Ok(let_two_statement(kind, values)),
+        FormKind::GenForm
+        | FormKind::CutForm
+        | FormKind::SumForm
+        | FormKind::CountForm
+        | FormKind::Stencil1Form
+        | FormKind::Stencil2Form => Ok(let_other_statement(kind, values)),
+        FormKind::RangeForm
+        | FormKind::TotalForm
+        | FormKind::ConserveForm
+        | FormKind::Conserve2Form
+        | FormKind::ProductCheckForm
+        | FormKind::UserForm => Ok(check_statement(kind, values)),
+    }
+}
+
+/// The `let` of these values, of a kernel of two operands.
+fn let_two_statement(kind: FormKind, values: &[Value]) -> Statement
+    requires kind { (form kind).first ≡ LetWord × (form kind).again ≡ [] × length (form kind).places ≡ 4 }
+    requires values { FitForm (form kind) values.now }
+    ensures { States kind values.now result }
+{
+    match kind {
+        FormKind::AddForm => {
+            let [_, x, _, a, b] = values else {
+                unreachable!();
+            };
+            Statement::LetAdd {
+                x: name_of(x),
+                a: name_of(a),
+                b: name_of(b),
+            }
+        }
+        FormKind::SubForm => {
+            let [_, x, _, a, b] = values else {
+                unreachable!();
+            };
+            Statement::LetSub {
+                x: name_of(x),
+                a: name_of(a),
+                b: name_of(b),
+            }
+        }
+        FormKind::MulForm => {
+            let [_, x, _, a, b] = values else {
+                unreachable!();
+            };
+            Statement::LetMul {
+                x: name_of(x),
+                a: name_of(a),
+                b: name_of(b),
+            }
+        }
+        FormKind::ScaleForm => {
+            let [_, x, _, a, k] = values else {
+                unreachable!();
+            };
+            Statement::LetScale {
+                x: name_of(x),
+                a: name_of(a),
+                k: number_of(k),
+            }
+        }
+        FormKind::ShiftForm => {
+            let [_, x, _, a, s] = values else {
+                unreachable!();
+            };
+            Statement::LetShift {
+                x: name_of(x),
+                a: name_of(a),
+                s: number_of(s),
+            }
+        }
+        FormKind::ProductForm => {
+            let [_, x, _, a, v] = values else {
+                unreachable!();
+            };
+            Statement::LetProduct {
+                x: name_of(x),
+                a: name_of(a),
+                v: name_of(v),
+            }
+        }
+        _ => unreachable!(),
+    }
+}
+
+/// The `let` of these values, of another kernel that has no list.
+fn let_other_statement(kind: FormKind, values: &[Value]) -> Statement
+    requires kind { (form kind).first ≡ LetWord × (form kind).again ≡ [] × length (form kind).places ≢ 4 }
+    requires values { FitForm (form kind) values.now }
+    ensures { States kind values.now result }
+{
+    match kind {
+        FormKind::GenForm => {
+            let [_, x, _, n, start, limit] = values else {
+                unreachable!();
+            };
+            Statement::LetGen {
+                x: name_of(x),
+                n: number_of(n),
+                start: number_of(start),
+                limit: number_of(limit),
+            }
+        }
+        FormKind::CutForm => {
+            let [_, x, _, a, from, len] = values else {
+                unreachable!();
+            };
+            Statement::LetCut {
+                x: name_of(x),
+                a: name_of(a),
+                from: number_of(from),
+                len: number_of(len),
+            }
+        }
+        FormKind::SumForm => {
+            let [_, x, _, a] = values else {
+                unreachable!();
+            };
+            Statement::LetSum {
+                x: name_of(x),
+                a: name_of(a),
+            }
+        }
+        FormKind::CountForm => {
+            let [_, x, _, a] = values else {
+                unreachable!();
+            };
+            Statement::LetCount {
+                x: name_of(x),
+                a: name_of(a),
+            }
+        }
+        FormKind::Stencil1Form => {
+            let [_, x, _, l, m, r, k, s] = values else {
+                unreachable!();
+            };
+            Statement::LetStencil1 {
+                x: name_of(x),
+                l: name_of(l),
+                m: name_of(m),
+                r: name_of(r),
+                k: number_of(k),
+                s: number_of(s),
+            }
+        }
+        FormKind::Stencil2Form => stencil2_statement(values),
+        _ => unreachable!(),
+    }
+}
+
+/// The check of these values, which has no list.
+fn check_statement(kind: FormKind, values: &[Value]) -> Statement
+    requires kind { (form kind).first ≡ CheckWord × (form kind).again ≡ [] }
+    requires values { FitForm (form kind) values.now }
+    ensures { States kind values.now result }
+{
+    match kind {
         FormKind::RangeForm => {
             let [_, _, promise, lo, hi] = values else {
                 unreachable!();
             };
-            Ok(Statement::CheckRange {
+            Statement::CheckRange {
                 promise: name_of(promise),
                 lo: number_of(lo),
                 hi: number_of(hi),
-            })
+            }
         }
         FormKind::TotalForm => {
             let [_, _, promise, sum] = values else {
                 unreachable!();
             };
-            Ok(Statement::CheckTotal {
+            Statement::CheckTotal {
                 promise: name_of(promise),
                 sum: number_of(sum),
-            })
+            }
         }
-        FormKind::LinearForm => linear_statement(alloc, values),
         FormKind::ConserveForm => {
             let [_, _, promise, l, m, r, k, s] = values else {
                 unreachable!();
             };
-            Ok(Statement::CheckConserve {
+            Statement::CheckConserve {
                 promise: name_of(promise),
                 l: name_of(l),
                 m: name_of(m),
                 r: name_of(r),
                 k: number_of(k),
                 s: number_of(s),
-            })
+            }
         }
-        FormKind::Conserve2Form => Ok(conserve2_statement(values)),
+        FormKind::Conserve2Form => conserve2_statement(values),
         FormKind::ProductCheckForm => {
             let [_, _, promise, a, q] = values else {
                 unreachable!();
             };
-            Ok(Statement::CheckProduct {
+            Statement::CheckProduct {
                 promise: name_of(promise),
                 a: name_of(a),
                 q: name_of(q),
-            })
+            }
         }
         FormKind::UserForm => {
             let [_, _, promise, check] = values else {
                 unreachable!();
             };
-            Ok(Statement::CheckUser {
+            Statement::CheckUser {
                 promise: name_of(promise),
                 check: name_of(check),
-            })
+            }
         }
+        _ => unreachable!(),
+    }
+}
+
+fn put_statement(values: &[Value]) -> Statement
+    requires { FitForm (form FormKind.PutForm) values.now }
+    ensures { States FormKind.PutForm values.now result }
+{
+    match values {
+        [_, promise, local] => Statement::Put {
+            promise: name_of(promise),
+            local: name_of(local),
+            when: None,
+        },
+        [_, promise, local, _, when] => Statement::Put {
+            promise: name_of(promise),
+            local: name_of(local),
+            when: Some(name_of(when)),
+        },
+        _ => unreachable!(),
     }
 }
 
@@ -461,7 +520,7 @@ fn names_in(alloc: Global, values: &[Value]) -> Result<NameList, OutOfMemory>
 fn numbers_in(alloc: Global, values: &[Value]) -> Result<Words, OutOfMemory>
     ensures { IfOk result (λ found. found ≡ numbers_in values.now) }
 {
-    let mut found = Words::new(alloc);
+    let mut found = Vec::with_capacity(alloc, values.len())?;
     let mut left = values;
     while let Some((value, rest)) = left.split_first() {
         if let Value::ANumber(number) = value {
@@ -469,14 +528,14 @@ fn numbers_in(alloc: Global, values: &[Value]) -> Result<Words, OutOfMemory>
         }
         left = rest;
     }
-    Ok(found)
+    Ok(Words::from_vec(found))
 }
 
 /// The first numbers of the pairs among these.
 fn columns_in(alloc: Global, values: &[Value]) -> Result<Words, OutOfMemory>
     ensures { IfOk result (λ found. found ≡ columns_in values.now) }
 {
-    let mut found = Words::new(alloc);
+    let mut found = Vec::with_capacity(alloc, values.len())?;
     let mut left = values;
     while let Some((value, rest)) = left.split_first() {
         if let Value::APair(column, _) = value {
@@ -484,14 +543,14 @@ fn columns_in(alloc: Global, values: &[Value]) -> Result<Words, OutOfMemory>
         }
         left = rest;
     }
-    Ok(found)
+    Ok(Words::from_vec(found))
 }
 
 /// The second numbers of the pairs among these.
 fn values_in(alloc: Global, values: &[Value]) -> Result<Words, OutOfMemory>
     ensures { IfOk result (λ found. found ≡ values_in values.now) }
 {
-    let mut found = Words::new(alloc);
+    let mut found = Vec::with_capacity(alloc, values.len())?;
     let mut left = values;
     while let Some((value, rest)) = left.split_first() {
         if let Value::APair(_, number) = value {
@@ -499,5 +558,5 @@ fn values_in(alloc: Global, values: &[Value]) -> Result<Words, OutOfMemory>
         }
         left = rest;
     }
-    Ok(found)
+    Ok(Words::from_vec(found))
 }

@@ -1,6 +1,6 @@
 //! The table of forms.
 
-ghost use Rattle.std.specs.Prelude.{◌≡◌, ◌∷◌, [], ℕ, List};
+ghost use Rattle.std.specs.Prelude.{◌≡◌, ◌≤◌, ◌∷◌, [], ℕ, List, length, take};
 ghost use Rattle.rh_task_text.specs.Forms.{form, kinds, awaiting};
 ghost use Rattle.rh_task_text.specs.FormRows.{IsForm, HasParts};
 ghost use Rattle.rh_task_text.specs.LineReasons.{kind_chosen, kind_among};
@@ -55,31 +55,6 @@ pub fn form_of(kind: FormKind) -> Form
             more: &[PairPlace],
             again: &[PairPlace],
         },
-        FormKind::PlainForm => awaiting(
-            TaskWord,
-            &[WordPlace(TaskWord), NamePlace, WordPlace(PlainWord)],
-            &[WordPlace(TaskWord), NamePlace, WordPlace(PlainWord)],
-        ),
-        FormKind::ReplicateForm => awaiting(
-            TaskWord,
-            &[WordPlace(TaskWord), NamePlace, WordPlace(ReplicateWord)],
-            &[WordPlace(TaskWord), NamePlace, WordPlace(ReplicateWord)],
-        ),
-        FormKind::ReplayForm => awaiting(
-            TaskWord,
-            &[WordPlace(TaskWord), NamePlace, WordPlace(ReplayWord)],
-            &[
-                WordPlace(TaskWord),
-                NamePlace,
-                WordPlace(ReplayWord),
-                NumberPlace,
-            ],
-        ),
-        FormKind::AbftForm => awaiting(
-            TaskWord,
-            &[WordPlace(TaskWord), NamePlace, WordPlace(AbftWord)],
-            &[WordPlace(TaskWord), NamePlace, WordPlace(AbftWord)],
-        ),
         FormKind::FinishForm => a_form(
             Standing::Outside,
             FinishWord,
@@ -97,9 +72,76 @@ pub fn form_of(kind: FormKind) -> Form
             &[WordPlace(EndWord)],
             &[WordPlace(EndWord)],
         ),
-        FormKind::LitForm => in_task(
-            LetWord,
-            &[WordPlace(LetWord), NamePlace, WordPlace(LitWord)],
+        FormKind::PutForm => Form {
+            standing: Standing::InTask,
+            first: PutWord,
+            choice: &[WordPlace(PutWord)],
+            places: &[WordPlace(PutWord), NamePlace, NamePlace],
+            more: &[WordPlace(WhenWord), NamePlace],
+            again: &[],
+        },
+        FormKind::DropForm => a_form(
+            Standing::InTask,
+            DropWord,
+            &[WordPlace(DropWord)],
+            &[WordPlace(DropWord), NamePlace],
+        ),
+        FormKind::PlainForm | FormKind::ReplicateForm | FormKind::ReplayForm | FormKind::AbftForm =>
+            task_form(kind),
+        FormKind::LitForm
+        | FormKind::GenForm
+        | FormKind::AddForm
+        | FormKind::SubForm
+        | FormKind::MulForm
+        | FormKind::ScaleForm
+        | FormKind::ShiftForm
+        | FormKind::CutForm
+        | FormKind::JoinForm
+        | FormKind::SumForm
+        | FormKind::CountForm
+        | FormKind::Stencil1Form
+        | FormKind::Stencil2Form
+        | FormKind::ProductForm => let_form(kind),
+        FormKind::RangeForm
+        | FormKind::TotalForm
+        | FormKind::LinearForm
+        | FormKind::ConserveForm
+        | FormKind::Conserve2Form
+        | FormKind::ProductCheckForm
+        | FormKind::UserForm => check_form(kind),
+    }
+}
+
+/// The row of a task.
+fn task_form(kind: FormKind) -> Form
+    requires { (form kind).first ≡ Keyword.TaskWord }
+    ensures { IsForm result (form kind) }
+{
+    match kind {
+        FormKind::PlainForm => a_task(&[WordPlace(TaskWord), NamePlace, WordPlace(PlainWord)]),
+        FormKind::ReplicateForm => a_task(&[
+            WordPlace(TaskWord),
+            NamePlace,
+            WordPlace(ReplicateWord),
+        ]),
+        FormKind::ReplayForm => a_task(&[
+            WordPlace(TaskWord),
+            NamePlace,
+            WordPlace(ReplayWord),
+            NumberPlace,
+        ]),
+        FormKind::AbftForm => a_task(&[WordPlace(TaskWord), NamePlace, WordPlace(AbftWord)]),
+        _ => unreachable!(),
+    }
+}
+
+/// The row of a `let`.
+fn let_form(kind: FormKind) -> Form
+    requires { (form kind).first ≡ Keyword.LetWord }
+    ensures { IsForm result (form kind) }
+{
+    match kind {
+        FormKind::LitForm => a_let(
             &[
                 WordPlace(LetWord),
                 NamePlace,
@@ -108,9 +150,7 @@ pub fn form_of(kind: FormKind) -> Form
             ],
             &[NumberPlace],
         ),
-        FormKind::GenForm => in_task(
-            LetWord,
-            &[WordPlace(LetWord), NamePlace, WordPlace(GenWord)],
+        FormKind::GenForm => a_let(
             &[
                 WordPlace(LetWord),
                 NamePlace,
@@ -121,9 +161,7 @@ pub fn form_of(kind: FormKind) -> Form
             ],
             &[],
         ),
-        FormKind::AddForm => in_task(
-            LetWord,
-            &[WordPlace(LetWord), NamePlace, WordPlace(AddWord)],
+        FormKind::AddForm => a_let(
             &[
                 WordPlace(LetWord),
                 NamePlace,
@@ -133,9 +171,7 @@ pub fn form_of(kind: FormKind) -> Form
             ],
             &[],
         ),
-        FormKind::SubForm => in_task(
-            LetWord,
-            &[WordPlace(LetWord), NamePlace, WordPlace(SubWord)],
+        FormKind::SubForm => a_let(
             &[
                 WordPlace(LetWord),
                 NamePlace,
@@ -145,9 +181,7 @@ pub fn form_of(kind: FormKind) -> Form
             ],
             &[],
         ),
-        FormKind::MulForm => in_task(
-            LetWord,
-            &[WordPlace(LetWord), NamePlace, WordPlace(MulWord)],
+        FormKind::MulForm => a_let(
             &[
                 WordPlace(LetWord),
                 NamePlace,
@@ -157,9 +191,7 @@ pub fn form_of(kind: FormKind) -> Form
             ],
             &[],
         ),
-        FormKind::ScaleForm => in_task(
-            LetWord,
-            &[WordPlace(LetWord), NamePlace, WordPlace(ScaleWord)],
+        FormKind::ScaleForm => a_let(
             &[
                 WordPlace(LetWord),
                 NamePlace,
@@ -169,9 +201,7 @@ pub fn form_of(kind: FormKind) -> Form
             ],
             &[],
         ),
-        FormKind::ShiftForm => in_task(
-            LetWord,
-            &[WordPlace(LetWord), NamePlace, WordPlace(ShiftWord)],
+        FormKind::ShiftForm => a_let(
             &[
                 WordPlace(LetWord),
                 NamePlace,
@@ -181,9 +211,7 @@ pub fn form_of(kind: FormKind) -> Form
             ],
             &[],
         ),
-        FormKind::CutForm => in_task(
-            LetWord,
-            &[WordPlace(LetWord), NamePlace, WordPlace(CutWord)],
+        FormKind::CutForm => a_let(
             &[
                 WordPlace(LetWord),
                 NamePlace,
@@ -194,9 +222,7 @@ pub fn form_of(kind: FormKind) -> Form
             ],
             &[],
         ),
-        FormKind::JoinForm => in_task(
-            LetWord,
-            &[WordPlace(LetWord), NamePlace, WordPlace(JoinWord)],
+        FormKind::JoinForm => a_let(
             &[
                 WordPlace(LetWord),
                 NamePlace,
@@ -205,15 +231,11 @@ pub fn form_of(kind: FormKind) -> Form
             ],
             &[NamePlace],
         ),
-        FormKind::SumForm => in_task(
-            LetWord,
-            &[WordPlace(LetWord), NamePlace, WordPlace(SumWord)],
+        FormKind::SumForm => a_let(
             &[WordPlace(LetWord), NamePlace, WordPlace(SumWord), NamePlace],
             &[],
         ),
-        FormKind::CountForm => in_task(
-            LetWord,
-            &[WordPlace(LetWord), NamePlace, WordPlace(CountWord)],
+        FormKind::CountForm => a_let(
             &[
                 WordPlace(LetWord),
                 NamePlace,
@@ -222,9 +244,7 @@ pub fn form_of(kind: FormKind) -> Form
             ],
             &[],
         ),
-        FormKind::Stencil1Form => in_task(
-            LetWord,
-            &[WordPlace(LetWord), NamePlace, WordPlace(Stencil1Word)],
+        FormKind::Stencil1Form => a_let(
             &[
                 WordPlace(LetWord),
                 NamePlace,
@@ -237,9 +257,7 @@ pub fn form_of(kind: FormKind) -> Form
             ],
             &[],
         ),
-        FormKind::Stencil2Form => in_task(
-            LetWord,
-            &[WordPlace(LetWord), NamePlace, WordPlace(Stencil2Word)],
+        FormKind::Stencil2Form => a_let(
             &[
                 WordPlace(LetWord),
                 NamePlace,
@@ -255,9 +273,7 @@ pub fn form_of(kind: FormKind) -> Form
             ],
             &[],
         ),
-        FormKind::ProductForm => in_task(
-            LetWord,
-            &[WordPlace(LetWord), NamePlace, WordPlace(ProductWord)],
+        FormKind::ProductForm => a_let(
             &[
                 WordPlace(LetWord),
                 NamePlace,
@@ -267,23 +283,17 @@ pub fn form_of(kind: FormKind) -> Form
             ],
             &[],
         ),
-        FormKind::PutForm => Form {
-            standing: Standing::InTask,
-            first: PutWord,
-            choice: &[WordPlace(PutWord)],
-            places: &[WordPlace(PutWord), NamePlace, NamePlace],
-            more: &[WordPlace(WhenWord), NamePlace],
-            again: &[],
-        },
-        FormKind::DropForm => a_form(
-            Standing::InTask,
-            DropWord,
-            &[WordPlace(DropWord)],
-            &[WordPlace(DropWord), NamePlace],
-        ),
-        FormKind::RangeForm => in_task(
-            CheckWord,
-            &[WordPlace(CheckWord), WordPlace(RangeWord)],
+        _ => unreachable!(),
+    }
+}
+
+/// The row of a check.
+fn check_form(kind: FormKind) -> Form
+    requires { (form kind).first ≡ Keyword.CheckWord }
+    ensures { IsForm result (form kind) }
+{
+    match kind {
+        FormKind::RangeForm => a_check(
             &[
                 WordPlace(CheckWord),
                 WordPlace(RangeWord),
@@ -293,9 +303,7 @@ pub fn form_of(kind: FormKind) -> Form
             ],
             &[],
         ),
-        FormKind::TotalForm => in_task(
-            CheckWord,
-            &[WordPlace(CheckWord), WordPlace(TotalWord)],
+        FormKind::TotalForm => a_check(
             &[
                 WordPlace(CheckWord),
                 WordPlace(TotalWord),
@@ -304,9 +312,7 @@ pub fn form_of(kind: FormKind) -> Form
             ],
             &[],
         ),
-        FormKind::LinearForm => in_task(
-            CheckWord,
-            &[WordPlace(CheckWord), WordPlace(LinearWord)],
+        FormKind::LinearForm => a_check(
             &[
                 WordPlace(CheckWord),
                 WordPlace(LinearWord),
@@ -317,9 +323,7 @@ pub fn form_of(kind: FormKind) -> Form
             ],
             &[NamePlace, NumberPlace],
         ),
-        FormKind::ConserveForm => in_task(
-            CheckWord,
-            &[WordPlace(CheckWord), WordPlace(ConserveWord)],
+        FormKind::ConserveForm => a_check(
             &[
                 WordPlace(CheckWord),
                 WordPlace(ConserveWord),
@@ -332,9 +336,7 @@ pub fn form_of(kind: FormKind) -> Form
             ],
             &[],
         ),
-        FormKind::Conserve2Form => in_task(
-            CheckWord,
-            &[WordPlace(CheckWord), WordPlace(Conserve2Word)],
+        FormKind::Conserve2Form => a_check(
             &[
                 WordPlace(CheckWord),
                 WordPlace(Conserve2Word),
@@ -350,9 +352,7 @@ pub fn form_of(kind: FormKind) -> Form
             ],
             &[],
         ),
-        FormKind::ProductCheckForm => in_task(
-            CheckWord,
-            &[WordPlace(CheckWord), WordPlace(ProductWord)],
+        FormKind::ProductCheckForm => a_check(
             &[
                 WordPlace(CheckWord),
                 WordPlace(ProductWord),
@@ -362,9 +362,7 @@ pub fn form_of(kind: FormKind) -> Form
             ],
             &[],
         ),
-        FormKind::UserForm => in_task(
-            CheckWord,
-            &[WordPlace(CheckWord), WordPlace(UserWord)],
+        FormKind::UserForm => a_check(
             &[
                 WordPlace(CheckWord),
                 WordPlace(UserWord),
@@ -373,6 +371,7 @@ pub fn form_of(kind: FormKind) -> Form
             ],
             &[],
         ),
+        _ => unreachable!(),
     }
 }
 
@@ -409,19 +408,38 @@ fn awaiting(first: Keyword, choice: &'static [Place], places: &'static [Place]) 
     }
 }
 
-/// A line of a task.
-fn in_task(
-    first: Keyword,
-    choice: &'static [Place],
-    places: &'static [Place],
-    again: &'static [Place],
-) -> Form
-    ensures { HasParts result Standing.InTask first choice.now places.now again.now again.now }
+/// A task of a scheme, which chooses the form with the words before it.
+fn a_task(places: &'static [Place]) -> Form
+    requires { 3 ≤ length places.now }
+    ensures { HasParts result Standing.Outside Keyword.TaskWord (take 3 places.now) places.now awaiting (Place.NamePlace ∷ []) }
+{
+    awaiting(TaskWord, &places[..3], places)
+}
+
+/// A `let` of a kernel, which chooses the form with the words before it.
+fn a_let(places: &'static [Place], again: &'static [Place]) -> Form
+    requires { 3 ≤ length places.now }
+    ensures { HasParts result Standing.InTask Keyword.LetWord (take 3 places.now) places.now again.now again.now }
 {
     Form {
         standing: Standing::InTask,
-        first,
-        choice,
+        first: LetWord,
+        choice: &places[..3],
+        places,
+        more: again,
+        again,
+    }
+}
+
+/// A check, whose name chooses the form with the word before it.
+fn a_check(places: &'static [Place], again: &'static [Place]) -> Form
+    requires { 2 ≤ length places.now }
+    ensures { HasParts result Standing.InTask Keyword.CheckWord (take 2 places.now) places.now again.now again.now }
+{
+    Form {
+        standing: Standing::InTask,
+        first: CheckWord,
+        choice: &places[..2],
         places,
         more: again,
         again,

@@ -28,6 +28,18 @@ fn has_reason(alloc: Global, above: &[u8], line: &[u8], reason: u8) -> Result<bo
     Ok(if at == 3 { told == reason } else { reason == 0 })
 }
 
+/// Whether each row, a digit and a space before its line, is a line that has this reason.
+fn have_reasons(alloc: Global, above: &[u8], rows: &[u8]) -> Result<bool, OutOfMemory> {
+    let mut all = true;
+    for row in rows.split(|byte| *byte == b'\n') {
+        let [digit, _, line @ ..] = row else {
+            return Ok(false);
+        };
+        all = all && has_reason(alloc, above, line, digit.wrapping_sub(b'0'))?;
+    }
+    Ok(all)
+}
+
 /// Whether the text of a head, a piece so many times and a tail has this first bad line and reason.
 fn is_refused(
     alloc: Global,
@@ -48,128 +60,132 @@ fn is_refused(
 
 #[test]
 fn lines_outside_of_tasks_are_judged(rt: HostRuntime) -> Result<(), Fail> {
-    let rows: [(&[u8], u8); 40] = [
-        (b"promise p 1", 0),
-        (b"promise p 0x1000 temp", 0),
-        (b"matrix m 1 4096", 0),
-        (b"task t plain", 0),
-        (b"task t plain await a b", 0),
-        (b"task t replicate await a", 0),
-        (b"task t replay 3", 0),
-        (b"task t abft", 0),
-        (b"finish f", 0),
-        (b"group g", 0),
-        (b"group g await a", 0),
-        (b"", 0),
-        (b"  # a comment", 0),
-        (b"# \x7f", 1),
-        (b"finish\tf", 1),
-        (b"bogus \x80", 1),
-        (b"bogus", 3),
-        (b"Promise p 1", 3),
-        (b"task 9 foo", 3),
-        (b"let x add 9 b", 3),
-        (b"row 0:1", 3),
-        (b"check range 9 x", 3),
-        (b"finish 9", 4),
-        (b"task 9", 4),
-        (b"promise 9 x", 4),
-        (b"task t plain await a 9", 4),
-        (b"task t plain foo 9", 4),
-        (b"promise p x", 5),
-        (b"promise p 1_000 temp", 5),
-        (b"promise p 0x 9 9", 5),
-        (b"task t replay x", 5),
-        (b"promise p", 6),
-        (b"promise p 0 tmp", 6),
-        (b"task t replicate 2", 6),
-        (b"task t plain await", 6),
-        (b"end x", 6),
-        (b"end", 8),
-        (b"promise p 0", 9),
-        (b"matrix m 1 4097", 9),
-        (b"task t plain await a a a a a a a a a a a a a a a a a", 9),
-    ];
-    for (line, reason) in rows {
-        assert!(rt; has_reason(rt.alloc(), b"#", line, reason)?);
-    }
+    let rows = b"\
+0 promise p 1\n\
+0 promise p 0x1000 temp\n\
+0 matrix m 1 4096\n\
+0 task t plain\n\
+0 task t plain await a b\n\
+0 task t replicate await a\n\
+0 task t replay 3\n\
+0 task t abft\n\
+0 finish f\n\
+0 group g\n\
+0 group g await a\n\
+0 \n\
+0   # a comment\n\
+1 # \x7f\n\
+1 finish\tf\n\
+1 bogus \x80\n\
+3 bogus\n\
+3 Promise p 1\n\
+3 task 9 foo\n\
+3 let x add 9 b\n\
+3 row 0:1\n\
+3 check range 9 x\n\
+4 finish 9\n\
+4 task 9\n\
+4 promise 9 x\n\
+4 task t plain await a 9\n\
+4 task t plain foo 9\n\
+5 promise p x\n\
+5 promise p 1_000 temp\n\
+5 promise p 0x 9 9\n\
+5 task t replay x\n\
+6 promise p\n\
+6 promise p 0 tmp\n\
+6 task t replicate 2\n\
+6 task t plain await\n\
+6 end x\n\
+8 end\n\
+9 promise p 0\n\
+9 matrix m 1 4097\n\
+9 task t plain await a a a a a a a a a a a a a a a a a"
+        .as_slice();
+    assert!(rt; have_reasons(rt.alloc(), b"#", rows)?);
     Ok(())
 }
 
 #[test]
 fn lines_of_tasks_are_judged(rt: HostRuntime) -> Result<(), Fail> {
-    let rows: [(&[u8], u8); 45] = [
-        (b"let x lit 1 0x2", 0),
-        (b"let x gen 4096 0 1", 0),
-        (b"let x add a b", 0),
-        (b"let x sub a b", 0),
-        (b"let x mul a b", 0),
-        (b"let x scale a 2", 0),
-        (b"let x shift a 63", 0),
-        (b"let x cut a 0 1", 0),
-        (b"let x join a b c", 0),
-        (b"let x sum a", 0),
-        (b"let x count a", 0),
-        (b"let x stencil1 l m r 1 2", 0),
-        (b"let x stencil2 n s w e m 3 1 2", 0),
-        (b"let x product a v", 0),
-        (b"put p x", 0),
-        (b"put p x when y", 0),
-        (b"drop q", 0),
-        (b"check range p 0 9", 0),
-        (b"check total p 1", 0),
-        (b"check linear p 0 q 1 r 2", 0),
-        (b"check conserve p l m r 1 2", 0),
-        (b"check conserve2 p n s w e m 3 1 2", 0),
-        (b"check product p a q", 0),
-        (b"check user p mine", 0),
-        (b"end", 0),
-        (b"promise p 1", 3),
-        (b"let x dense a b 1 1 1", 3),
-        (b"let x", 6),
-        (b"let x lit", 6),
-        (b"let x lit x", 5),
-        (b"let x gen 0 x 0", 5),
-        (b"let x gen 1 1 0", 9),
-        (b"let 9 shift a 64", 4),
-        (b"let x shift a 64 9", 6),
-        (b"let x shift a 64", 9),
-        (b"let x cut a 0 0", 9),
-        (b"let x stencil2 n s w e m 0 1 2", 9),
-        (b"put p x foo 9", 4),
-        (b"put p x foo y", 6),
-        (b"put p x when", 6),
-        (b"drop q r", 6),
-        (b"check linear p 0 q", 6),
-        (b"check linear p 0 q 1 9 x", 4),
-        (b"check linear p 0 q 1 r x", 5),
-        (b"check conserve p l m r 1 64", 9),
-    ];
-    for (line, reason) in rows {
-        assert!(rt; has_reason(rt.alloc(), b"task t plain", line, reason)?);
-    }
+    let rows = b"\
+0 let x lit 1 0x2\n\
+0 let x lit 9999999999999999999 18446744073709551615\n\
+5 let x lit 18446744073709551616\n\
+5 let x lit 000000000000000000001\n\
+1 let x lit 1234567890123456\x7f789\n\
+0 let abcdefghijklmnopqrstuvwxyz_01234 lit 1\n\
+4 let abcdefghijklmnopqrstuvwxyz_012345 lit 1\n\
+3 let x sums a\n\
+3 check rang p 0 9\n\
+1 check total p 9 9 \x01\n\
+4 drop 9 9\n\
+0 let x gen 4096 0 1\n\
+0 let x add a b\n\
+0 let x sub a b\n\
+0 let x mul a b\n\
+0 let x scale a 2\n\
+0 let x shift a 63\n\
+0 let x cut a 0 1\n\
+0 let x join a b c\n\
+0 let x sum a\n\
+0 let x count a\n\
+0 let x stencil1 l m r 1 2\n\
+0 let x stencil2 n s w e m 3 1 2\n\
+0 let x product a v\n\
+0 put p x\n\
+0 put p x when y\n\
+0 drop q\n\
+0 check range p 0 9\n\
+0 check total p 1\n\
+0 check linear p 0 q 1 r 2\n\
+0 check conserve p l m r 1 2\n\
+0 check conserve2 p n s w e m 3 1 2\n\
+0 check product p a q\n\
+0 check user p mine\n\
+0 end\n\
+3 promise p 1\n\
+3 let x dense a b 1 1 1\n\
+6 let x\n\
+6 let x lit\n\
+5 let x lit x\n\
+5 let x gen 0 x 0\n\
+9 let x gen 1 1 0\n\
+4 let 9 shift a 64\n\
+6 let x shift a 64 9\n\
+9 let x shift a 64\n\
+9 let x cut a 0 0\n\
+9 let x stencil2 n s w e m 0 1 2\n\
+4 put p x foo 9\n\
+6 put p x foo y\n\
+6 put p x when\n\
+6 drop q r\n\
+6 check linear p 0 q\n\
+4 check linear p 0 q 1 9 x\n\
+5 check linear p 0 q 1 r x\n\
+9 check conserve p l m r 1 64"
+        .as_slice();
+    assert!(rt; have_reasons(rt.alloc(), b"task t plain", rows)?);
     Ok(())
 }
 
 #[test]
 fn lines_of_matrices_are_judged(rt: HostRuntime) -> Result<(), Fail> {
-    let rows: [(&[u8], u8); 12] = [
-        (b"row", 0),
-        (b"row 0:1 2:1048575", 0),
-        (b"end", 6),
-        (b"promise p 1", 3),
-        (b"row 0:1 x", 5),
-        (b"row 0:1:2 0:1", 5),
-        (b"row 0:", 5),
-        (b"row 0:1 0:2", 9),
-        (b"row 3:1", 9),
-        (b"row 2:1 1:1", 9),
-        (b"row 0:1048576", 9),
-        (b"row\t", 1),
-    ];
-    for (line, reason) in rows {
-        assert!(rt; has_reason(rt.alloc(), b"matrix m 1 3", line, reason)?);
-    }
+    let rows = b"\
+0 row\n\
+0 row 0:1 2:1048575\n\
+6 end\n\
+3 promise p 1\n\
+5 row 0:1 x\n\
+5 row 0:1:2 0:1\n\
+5 row 0:\n\
+9 row 0:1 0:2\n\
+9 row 3:1\n\
+9 row 2:1 1:1\n\
+9 row 0:1048576\n\
+1 row\t"
+        .as_slice();
+    assert!(rt; have_reasons(rt.alloc(), b"matrix m 1 3", rows)?);
     Ok(())
 }
 
@@ -178,7 +194,7 @@ fn texts_are_judged(rt: HostRuntime) -> Result<(), Fail> {
     let task: &[u8] = b"rhc 1\ntask t plain\n";
     let literal: &[u8] = b"rhc 1\ntask t plain\nlet x lit";
     let row: &[u8] = b"rhc 1\nmatrix m 1 4096\nrow";
-    let rows: [(&[u8], &[u8], u32, &[u8], (u32, u8)); 20] = [
+    let rows: [(&[u8], &[u8], u32, &[u8], (u32, u8)); 22] = [
         (b"", b"", 0, b"", (1, 2)),
         (b"rhc 2\n", b"", 0, b"", (1, 2)),
         (b"# rhc 1\n", b"", 0, b"", (1, 2)),
@@ -191,6 +207,14 @@ fn texts_are_judged(rt: HostRuntime) -> Result<(), Fail> {
         (b"rhc 1\nmatrix m 2 1\n", b"row 0:1\n", 3, b"end", (5, 6)),
         (b"rhc 1\nmatrix m 2 1\n", b"row 0:1\n", 1, b"end", (4, 6)),
         (b"rhc 1\nmatrix m 2 1\n", b"row 0:1\n", 2, b"end", (0, 0)),
+        (b"rhc 1\nmatrix m 2 1\n", b"row 0:1\n", 2, b"", (5, 7)),
+        (
+            b"rhc 1\nmatrix m 2 1\n",
+            b"row 0:1\n",
+            2,
+            b"end\nend",
+            (6, 8),
+        ),
         (task, b"let x sum a\n", 32, b"end", (0, 0)),
         (task, b"let x sum a\n", 33, b"end", (35, 9)),
         (task, b"check user p q\n", 17, b"end", (19, 9)),

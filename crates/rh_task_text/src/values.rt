@@ -4,7 +4,8 @@ ghost use Rattle.std.specs.Prelude.{◌≡◌, ◌++◌, ◌∷◌, [], IfOk, On
 ghost use Rattle.rh_words.specs.declared.value.Value.{Value};
 ghost use Rattle.rh_words.specs.declared.value.Value.TheVariants.{AWord, AName, ANumber};
 ghost use Rattle.rh_words.specs.declared.keyword.Keyword.TheVariants.{RowWord, LetWord, LitWord, CheckWord, LinearWord};
-ghost use Rattle.rh_task_text.specs.Statements.{said, awaits_said, pairs_said, terms_said, scheme_said};
+ghost use Rattle.rh_task_text.specs.Forms.{form};
+ghost use Rattle.rh_task_text.specs.Statements.{kind_of, said, awaits_said, pairs_said, terms_said, scheme_said};
 
 use crate::statement::{SchemeText, Statement};
 use Keyword::{
@@ -24,12 +25,7 @@ pub fn values_of(alloc: Global, statement: &Statement) -> Result<Vec<Value>, Out
 {
     match statement {
         Statement::Promise { name, len, temp } => promise_values(alloc, name, *len, *temp),
-        Statement::Matrix { name, rows, cols } => Ok(vec![in alloc;
-            AWord(MatrixWord),
-            AName(*name),
-            ANumber(*rows),
-            ANumber(*cols),
-        ]?),
+        Statement::Matrix { name, rows, cols } => matrix_values(alloc, name, *rows, *cols),
         Statement::Row { columns, values } => row_values(
             alloc,
             columns.as_slice(),
@@ -40,84 +36,71 @@ pub fn values_of(alloc: Global, statement: &Statement) -> Result<Vec<Value>, Out
             scheme,
             awaits,
         } => task_values(alloc, name, *scheme, awaits),
-        Statement::Finish { name } => Ok(vec![in alloc; AWord(FinishWord), AName(*name)]?),
+        Statement::Finish { name } => named_values(alloc, FinishWord, name),
         Statement::Group { name, awaits } => group_values(alloc, name, awaits),
-        Statement::End => Ok(vec![in alloc; AWord(EndWord)]?),
+        Statement::End => listed(alloc, &[AWord(EndWord)]),
         Statement::LetLit { x, words } => let_lit_values(alloc, x, words.as_slice()),
-        Statement::LetGen { x, n, start, limit } => Ok(vec![in alloc;
-            AWord(LetWord),
-            AName(*x),
-            AWord(GenWord),
-            ANumber(*n),
-            ANumber(*start),
-            ANumber(*limit),
-        ]?),
-        Statement::LetAdd { x, a, b } => Ok(vec![in alloc;
-            AWord(LetWord),
-            AName(*x),
-            AWord(AddWord),
-            AName(*a),
-            AName(*b),
-        ]?),
-        Statement::LetSub { x, a, b } => Ok(vec![in alloc;
-            AWord(LetWord),
-            AName(*x),
-            AWord(SubWord),
-            AName(*a),
-            AName(*b),
-        ]?),
-        Statement::LetMul { x, a, b } => Ok(vec![in alloc;
-            AWord(LetWord),
-            AName(*x),
-            AWord(MulWord),
-            AName(*a),
-            AName(*b),
-        ]?),
-        Statement::LetScale { x, a, k } => Ok(vec![in alloc;
-            AWord(LetWord),
-            AName(*x),
-            AWord(ScaleWord),
-            AName(*a),
-            ANumber(*k),
-        ]?),
-        Statement::LetShift { x, a, s } => Ok(vec![in alloc;
-            AWord(LetWord),
-            AName(*x),
-            AWord(ShiftWord),
-            AName(*a),
-            ANumber(*s),
-        ]?),
-        Statement::LetCut { x, a, from, len } => Ok(vec![in alloc;
-            AWord(LetWord),
-            AName(*x),
-            AWord(CutWord),
-            AName(*a),
-            ANumber(*from),
-            ANumber(*len),
-        ]?),
         Statement::LetJoin { x, parts } => let_join_values(alloc, x, parts),
-        Statement::LetSum { x, a } => Ok(vec![in alloc;
-            AWord(LetWord),
-            AName(*x),
-            AWord(SumWord),
-            AName(*a),
-        ]?),
-        Statement::LetCount { x, a } => Ok(vec![in alloc;
-            AWord(LetWord),
-            AName(*x),
-            AWord(CountWord),
-            AName(*a),
-        ]?),
-        Statement::LetStencil1 { x, l, m, r, k, s } => Ok(vec![in alloc;
-            AWord(LetWord),
+        Statement::Put {
+            promise,
+            local,
+            when,
+        } => put_values(alloc, promise, local, when),
+        Statement::DropAwait { promise } => named_values(alloc, DropWord, promise),
+        Statement::CheckLinear {
+            promise,
+            base,
+            inputs,
+            factors,
+        } => check_linear_values(alloc, promise, *base, inputs, factors.as_slice()),
+        Statement::LetGen { .. }
+        | Statement::LetAdd { .. }
+        | Statement::LetSub { .. }
+        | Statement::LetMul { .. }
+        | Statement::LetScale { .. }
+        | Statement::LetShift { .. }
+        | Statement::LetCut { .. }
+        | Statement::LetSum { .. }
+        | Statement::LetCount { .. }
+        | Statement::LetStencil1 { .. }
+        | Statement::LetStencil2 { .. }
+        | Statement::LetProduct { .. } => let_values(alloc, statement),
+        Statement::CheckRange { .. }
+        | Statement::CheckTotal { .. }
+        | Statement::CheckConserve { .. }
+        | Statement::CheckConserve2 { .. }
+        | Statement::CheckProduct { .. }
+        | Statement::CheckUser { .. } => check_values(alloc, statement),
+    }
+}
+
+/// What a `let` says that has no list.
+#[tactic(auto, using(crate::proofs::TaskForms::tasks_begin))]
+fn let_values(alloc: Global, statement: &Statement) -> Result<Vec<Value>, OutOfMemory>
+    requires { (form (kind_of statement.now)).first ≡ LetWord × (form (kind_of statement.now)).again ≡ [] }
+    ensures { IfOk result (λ values. values.items ≡ said statement.now) }
+{
+    match statement {
+        Statement::LetGen { x, n, start, limit } => let_gen_values(alloc, x, *n, *start, *limit),
+        Statement::LetAdd { x, a, b } => let_two_values(alloc, x, AddWord, a, b),
+        Statement::LetSub { x, a, b } => let_two_values(alloc, x, SubWord, a, b),
+        Statement::LetMul { x, a, b } => let_two_values(alloc, x, MulWord, a, b),
+        Statement::LetScale { x, a, k } => let_number_values(alloc, x, ScaleWord, a, *k),
+        Statement::LetShift { x, a, s } => let_number_values(alloc, x, ShiftWord, a, *s),
+        Statement::LetCut { x, a, from, len } => let_cut_values(alloc, x, a, *from, *len),
+        Statement::LetSum { x, a } => let_one_values(alloc, x, SumWord, a),
+        Statement::LetCount { x, a } => let_one_values(alloc, x, CountWord, a),
+        Statement::LetStencil1 { x, l, m, r, k, s } => stencil1_values(
+            alloc,
+            LetWord,
             AName(*x),
             AWord(Stencil1Word),
-            AName(*l),
-            AName(*m),
-            AName(*r),
-            ANumber(*k),
-            ANumber(*s),
-        ]?),
+            l,
+            m,
+            r,
+            *k,
+            *s,
+        ),
         Statement::LetStencil2 {
             x,
             north,
@@ -128,51 +111,34 @@ pub fn values_of(alloc: Global, statement: &Statement) -> Result<Vec<Value>, Out
             cols,
             k,
             s,
-        } => Ok(vec![in alloc;
-            AWord(LetWord),
+        } => stencil2_values(
+            alloc,
+            LetWord,
             AName(*x),
             AWord(Stencil2Word),
-            AName(*north),
-            AName(*south),
-            AName(*west),
-            AName(*east),
-            AName(*m),
-            ANumber(*cols),
-            ANumber(*k),
-            ANumber(*s),
-        ]?),
-        Statement::LetProduct { x, a, v } => Ok(vec![in alloc;
-            AWord(LetWord),
-            AName(*x),
-            AWord(ProductWord),
-            AName(*a),
-            AName(*v),
-        ]?),
-        Statement::Put {
-            promise,
-            local,
-            when,
-        } => put_values(alloc, promise, local, when),
-        Statement::DropAwait { promise } => Ok(vec![in alloc; AWord(DropWord), AName(*promise)]?),
-        Statement::CheckRange { promise, lo, hi } => Ok(vec![in alloc;
-            AWord(CheckWord),
-            AWord(RangeWord),
-            AName(*promise),
-            ANumber(*lo),
-            ANumber(*hi),
-        ]?),
-        Statement::CheckTotal { promise, sum } => Ok(vec![in alloc;
-            AWord(CheckWord),
-            AWord(TotalWord),
-            AName(*promise),
-            ANumber(*sum),
-        ]?),
-        Statement::CheckLinear {
-            promise,
-            base,
-            inputs,
-            factors,
-        } => check_linear_values(alloc, promise, *base, inputs, factors.as_slice()),
+            north,
+            south,
+            west,
+            east,
+            m,
+            *cols,
+            *k,
+            *s,
+        ),
+        Statement::LetProduct { x, a, v } => let_two_values(alloc, x, ProductWord, a, v),
+        _ => unreachable!(),
+    }
+}
+
+/// What a check says that has no list.
+#[tactic(auto, using(crate::proofs::TaskForms::tasks_begin))]
+fn check_values(alloc: Global, statement: &Statement) -> Result<Vec<Value>, OutOfMemory>
+    requires { (form (kind_of statement.now)).first ≡ CheckWord × (form (kind_of statement.now)).again ≡ [] }
+    ensures { IfOk result (λ values. values.items ≡ said statement.now) }
+{
+    match statement {
+        Statement::CheckRange { promise, lo, hi } => check_range_values(alloc, promise, *lo, *hi),
+        Statement::CheckTotal { promise, sum } => check_total_values(alloc, promise, *sum),
         Statement::CheckConserve {
             promise,
             l,
@@ -180,16 +146,17 @@ pub fn values_of(alloc: Global, statement: &Statement) -> Result<Vec<Value>, Out
             r,
             k,
             s,
-        } => Ok(vec![in alloc;
-            AWord(CheckWord),
+        } => stencil1_values(
+            alloc,
+            CheckWord,
             AWord(ConserveWord),
             AName(*promise),
-            AName(*l),
-            AName(*m),
-            AName(*r),
-            ANumber(*k),
-            ANumber(*s),
-        ]?),
+            l,
+            m,
+            r,
+            *k,
+            *s,
+        ),
         Statement::CheckConserve2 {
             promise,
             north,
@@ -200,33 +167,289 @@ pub fn values_of(alloc: Global, statement: &Statement) -> Result<Vec<Value>, Out
             cols,
             k,
             s,
-        } => Ok(vec![in alloc;
-            AWord(CheckWord),
+        } => stencil2_values(
+            alloc,
+            CheckWord,
             AWord(Conserve2Word),
             AName(*promise),
-            AName(*north),
-            AName(*south),
-            AName(*west),
-            AName(*east),
-            AName(*m),
-            ANumber(*cols),
-            ANumber(*k),
-            ANumber(*s),
-        ]?),
-        Statement::CheckProduct { promise, a, q } => Ok(vec![in alloc;
+            north,
+            south,
+            west,
+            east,
+            m,
+            *cols,
+            *k,
+            *s,
+        ),
+        Statement::CheckProduct { promise, a, q } => check_product_values(alloc, promise, a, q),
+        Statement::CheckUser { promise, check } => check_user_values(alloc, promise, check),
+        _ => unreachable!(),
+    }
+}
+
+/// A list of these values.
+fn listed(alloc: Global, values: &[Value]) -> Result<Vec<Value>, OutOfMemory>
+    ensures { IfOk result (λ list. list.items ≡ values.now) }
+{
+    let list = Vec::from_slice(alloc, values)?;
+    Ok(list)
+}
+
+fn matrix_values(
+    alloc: Global,
+    name: &Name,
+    rows: u64,
+    cols: u64,
+) -> Result<Vec<Value>, OutOfMemory>
+    ensures { IfOk result (λ values. values.items ≡ said (Statement.Matrix name.now rows cols)) }
+{
+    listed(
+        alloc,
+        &[
+            AWord(MatrixWord),
+            AName(*name),
+            ANumber(rows),
+            ANumber(cols),
+        ],
+    )
+}
+
+fn named_values(alloc: Global, word: Keyword, name: &Name) -> Result<Vec<Value>, OutOfMemory>
+    ensures { IfOk result (λ values. values.items ≡ AWord word ∷ AName name.now ∷ []) }
+{
+    listed(alloc, &[AWord(word), AName(*name)])
+}
+
+fn let_gen_values(
+    alloc: Global,
+    x: &Name,
+    n: u64,
+    start: u64,
+    limit: u64,
+) -> Result<Vec<Value>, OutOfMemory>
+    ensures { IfOk result (λ values. values.items ≡ said (Statement.LetGen x.now n start limit)) }
+{
+    listed(
+        alloc,
+        &[
+            AWord(LetWord),
+            AName(*x),
+            AWord(GenWord),
+            ANumber(n),
+            ANumber(start),
+            ANumber(limit),
+        ],
+    )
+}
+
+fn let_one_values(
+    alloc: Global,
+    x: &Name,
+    kernel: Keyword,
+    a: &Name,
+) -> Result<Vec<Value>, OutOfMemory>
+    ensures { IfOk result (λ values. values.items ≡ AWord LetWord ∷ AName x.now ∷ AWord kernel ∷ AName a.now ∷ []) }
+{
+    listed(
+        alloc,
+        &[AWord(LetWord), AName(*x), AWord(kernel), AName(*a)],
+    )
+}
+
+fn let_two_values(
+    alloc: Global,
+    x: &Name,
+    kernel: Keyword,
+    a: &Name,
+    b: &Name,
+) -> Result<Vec<Value>, OutOfMemory>
+    ensures { IfOk result (λ values. values.items ≡ AWord LetWord ∷ AName x.now ∷ AWord kernel ∷ AName a.now ∷ AName b.now ∷ []) }
+{
+    listed(
+        alloc,
+        &[
+            AWord(LetWord),
+            AName(*x),
+            AWord(kernel),
+            AName(*a),
+            AName(*b),
+        ],
+    )
+}
+
+fn let_number_values(
+    alloc: Global,
+    x: &Name,
+    kernel: Keyword,
+    a: &Name,
+    number: u64,
+) -> Result<Vec<Value>, OutOfMemory>
+    ensures { IfOk result (λ values. values.items ≡ AWord LetWord ∷ AName x.now ∷ AWord kernel ∷ AName a.now ∷ ANumber number ∷ []) }
+{
+    listed(
+        alloc,
+        &[
+            AWord(LetWord),
+            AName(*x),
+            AWord(kernel),
+            AName(*a),
+            ANumber(number),
+        ],
+    )
+}
+
+fn let_cut_values(
+    alloc: Global,
+    x: &Name,
+    a: &Name,
+    from: u64,
+    len: u64,
+) -> Result<Vec<Value>, OutOfMemory>
+    ensures { IfOk result (λ values. values.items ≡ said (Statement.LetCut x.now a.now from len)) }
+{
+    listed(
+        alloc,
+        &[
+            AWord(LetWord),
+            AName(*x),
+            AWord(CutWord),
+            AName(*a),
+            ANumber(from),
+            ANumber(len),
+        ],
+    )
+}
+
+fn check_range_values(
+    alloc: Global,
+    promise: &Name,
+    lo: u64,
+    hi: u64,
+) -> Result<Vec<Value>, OutOfMemory>
+    ensures { IfOk result (λ values. values.items ≡ said (Statement.CheckRange promise.now lo hi)) }
+{
+    listed(
+        alloc,
+        &[
+            AWord(CheckWord),
+            AWord(RangeWord),
+            AName(*promise),
+            ANumber(lo),
+            ANumber(hi),
+        ],
+    )
+}
+
+fn check_total_values(alloc: Global, promise: &Name, sum: u64) -> Result<Vec<Value>, OutOfMemory>
+    ensures { IfOk result (λ values. values.items ≡ said (Statement.CheckTotal promise.now sum)) }
+{
+    listed(
+        alloc,
+        &[
+            AWord(CheckWord),
+            AWord(TotalWord),
+            AName(*promise),
+            ANumber(sum),
+        ],
+    )
+}
+
+fn check_product_values(
+    alloc: Global,
+    promise: &Name,
+    a: &Name,
+    q: &Name,
+) -> Result<Vec<Value>, OutOfMemory>
+    ensures { IfOk result (λ values. values.items ≡ said (Statement.CheckProduct promise.now a.now q.now)) }
+{
+    listed(
+        alloc,
+        &[
             AWord(CheckWord),
             AWord(ProductWord),
             AName(*promise),
             AName(*a),
             AName(*q),
-        ]?),
-        Statement::CheckUser { promise, check } => Ok(vec![in alloc;
+        ],
+    )
+}
+
+fn check_user_values(alloc: Global, promise: &Name, check: &Name) -> Result<Vec<Value>, OutOfMemory>
+    ensures { IfOk result (λ values. values.items ≡ said (Statement.CheckUser promise.now check.now)) }
+{
+    listed(
+        alloc,
+        &[
             AWord(CheckWord),
             AWord(UserWord),
             AName(*promise),
             AName(*check),
-        ]?),
-    }
+        ],
+    )
+}
+
+/// A line of one dimension: a kernel or its check.
+fn stencil1_values(
+    alloc: Global,
+    first: Keyword,
+    second: Value,
+    third: Value,
+    l: &Name,
+    m: &Name,
+    r: &Name,
+    k: u64,
+    s: u64,
+) -> Result<Vec<Value>, OutOfMemory>
+    ensures { IfOk result (λ values. values.items ≡ AWord first ∷ second ∷ third ∷ AName l.now ∷ AName m.now ∷ AName r.now ∷ ANumber k ∷ ANumber s ∷ []) }
+{
+    listed(
+        alloc,
+        &[
+            AWord(first),
+            second,
+            third,
+            AName(*l),
+            AName(*m),
+            AName(*r),
+            ANumber(k),
+            ANumber(s),
+        ],
+    )
+}
+
+/// A line of two dimensions: a kernel or its check.
+fn stencil2_values(
+    alloc: Global,
+    first: Keyword,
+    second: Value,
+    third: Value,
+    north: &Name,
+    south: &Name,
+    west: &Name,
+    east: &Name,
+    m: &Name,
+    cols: u64,
+    k: u64,
+    s: u64,
+) -> Result<Vec<Value>, OutOfMemory>
+    ensures { IfOk result (λ values. values.items ≡ AWord first ∷ second ∷ third ∷ AName north.now ∷ AName south.now ∷ AName west.now ∷ AName east.now ∷ AName m.now ∷ ANumber cols ∷ ANumber k ∷ ANumber s ∷ []) }
+{
+    listed(
+        alloc,
+        &[
+            AWord(first),
+            second,
+            third,
+            AName(*north),
+            AName(*south),
+            AName(*west),
+            AName(*east),
+            AName(*m),
+            ANumber(cols),
+            ANumber(k),
+            ANumber(s),
+        ],
+    )
 }
 
 fn promise_values(
@@ -312,15 +535,18 @@ fn put_values(
     ensures { IfOk result (λ values. values.items ≡ said (Statement.Put promise.now local.now when.now)) }
 {
     match when {
-        None => Ok(vec![in alloc; AWord(PutWord), AName(*promise), AName(*local)]?),
+        None => listed(alloc, &[AWord(PutWord), AName(*promise), AName(*local)]),
         Some(when) => {
-            Ok(vec![in alloc;
-                AWord(PutWord),
-                AName(*promise),
-                AName(*local),
-                AWord(WhenWord),
-                AName(*when),
-            ]?)
+            listed(
+                alloc,
+                &[
+                    AWord(PutWord),
+                    AName(*promise),
+                    AName(*local),
+                    AWord(WhenWord),
+                    AName(*when),
+                ],
+            )
         }
     }
 }

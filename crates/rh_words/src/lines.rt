@@ -1,6 +1,6 @@
 //! The lines of a text and the words of a line.
 
-ghost use Rattle.std.specs.Prelude.{◌≡◌, ◌≢◌, ◌↔◌, ℕ, List, ◌+◌, ◌<◌, ◌≤◌, ◌∷◌, [], IsTrue, IfSome, MatchOption, length, take, drop, slice_index, slice_range, if◌then◌else◌};
+ghost use Rattle.std.specs.Prelude.{◌≡◌, ◌≢◌, ◌↔◌, ℕ, List, ◌+◌, ◌<◌, ◌≤◌, ◌∷◌, [], IsTrue, IfSome, MatchOption, length, take, drop, slice_index, slice_range, true, false, if◌then◌else◌};
 ghost use Rattle.rh_words.specs.Text.{lines_of, words_of, is_printable, is_printable_byte, SaysNothing, IsHeader};
 ghost use Rattle.rh_words.specs.Positions.{IsBlankFrom, IsFirstWord};
 
@@ -63,7 +63,7 @@ fn word_end(line: &[u8], from: usize) -> usize
     ensures ended { result < length line.now → slice_index line.now result ≡ 32 }
     ensures words { words_of (drop from line.now) ≡ slice_range line.now from result ∷ words_of (drop result line.now) }
 {
-    for at in from + 1..line.len() {
+    for at in from..line.len() {
         if line[at] == b' ' {
             return at;
         }
@@ -87,15 +87,55 @@ fn first_line(bytes: &[u8]) -> (usize, bool)
     ensures line { lines_of bytes.now ≡ take result.0 bytes.now ∷ lines_of (drop (result.0 + 1) bytes.now) }
     ensures printable { result.1 ≡ is_printable (take result.0 bytes.now) }
 {
-    let mut printable = true;
-    for at in 0..bytes.len() {
-        let byte = bytes[at];
-        if byte == b'\n' {
-            return (at, printable);
-        }
-        printable = printable && is_printable_byte(byte);
+    let end = printable_end(bytes);
+    if end < bytes.len() && bytes[end] != b'\n' {
+        (line_end(bytes, end), false)
+    } else {
+        (end, true)
     }
-    (bytes.len(), printable)
+}
+
+/// The place of the first byte that is not printable, else the length.
+fn printable_end(bytes: &[u8]) -> usize
+    ensures within { result ≤ length bytes.now }
+    ensures printable { is_printable (take result bytes.now) ≡ true }
+    ensures found { result < length bytes.now → is_printable_byte (slice_index bytes.now result) ≡ false }
+{
+    for at in printable_pieces(bytes)..bytes.len() {
+        if !is_printable_byte(bytes[at]) {
+            return at;
+        }
+    }
+    bytes.len()
+}
+
+/// The length of pieces that are looked at as a whole.
+const PIECE: usize = 16;
+
+/// Where the first piece begins that has a byte that is not printable, or that is no whole piece.
+fn printable_pieces(bytes: &[u8]) -> usize
+    ensures within { result ≤ length bytes.now }
+    ensures printable { is_printable (take result bytes.now) ≡ true }
+{
+    let mut at = 0;
+    while bytes.len() - at >= PIECE {
+        if !is_printable(&bytes[at..at + PIECE]) {
+            return at;
+        }
+        at += PIECE;
+    }
+    at
+}
+
+/// Whether all bytes are printable. No byte ends the loop, so that many are looked at in one step.
+fn is_printable(bytes: &[u8]) -> bool
+    ensures { result ≡ is_printable bytes.now }
+{
+    let mut all = true;
+    for byte in bytes {
+        all = all & is_printable_byte(*byte);
+    }
+    all
 }
 
 fn is_printable_byte(byte: u8) -> bool

@@ -1,4 +1,5 @@
 pub mod Attempts
 pub mod Faults
 pub mod Locals
+pub mod Products
 pub mod Puts

@@ -9,8 +9,7 @@ use Rattle.rh_rules.specs.declared.body.Step.{Step}
 use Rattle.rh_rules.specs.declared.body.Step.TheVariants.{Lit, Gen, Add, Sub, Mul, Scale, Shift, Cut, Join, Sum, Count, Stencil1, Stencil2, Product, Put, DropAwait}
 use Rattle.rh_rules.specs.Bodies.{IsSoundWhen, drop_at, drops_of}
 use Rattle.rh_plan.specs.declared.made_put.MadePut.{MadePut}
-use Rattle.rh_plan.specs.Buffers.{BufferData, buffer_data, local_at, is_made, puts_at, puts_of}
-use Rattle.rh_attempt.specs.Replacing.{made_put, puts_with}
+use Rattle.rh_plan.specs.Buffers.{BufferData, buffer_data, local_at, is_made, puts_at, puts_of, made_put, puts_with}
 use Rattle.rh_attempt.specs.Attempting.{ReadsLocals, is_local, reads_local, is_read, AreAsBefore, with_step}
 
 -- one local less, which no later put reads

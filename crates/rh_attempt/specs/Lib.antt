@@ -1,3 +1,2 @@
 pub mod Attempting
 pub mod Faulting
-pub mod Replacing

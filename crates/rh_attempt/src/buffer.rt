@@ -26,8 +26,7 @@ impl Model for Buffer {
 }
 
 impl Buffer {
-    ghost use Rattle.rh_plan.specs.Buffers.{buffer_data, words_put};
-    ghost use Rattle.rh_attempt.specs.Replacing.{puts_with};
+    ghost use Rattle.rh_plan.specs.Buffers.{buffer_data, buffer_with, words_put};
 
     /// Nothing is put, and nothing dropped.
     pub(crate) fn new(alloc: Global) -> Buffer
@@ -75,7 +74,7 @@ impl Buffer {
     /// Puts other words to a promise to which it puts as many. It takes no memory.
     pub fn set_put(&mut self, promise: u32, words: Words)
         requires { IsSomeAnd (words_put promise self.old.puts) (λ w. length w ≡ length words) }
-        ensures { self.new ≡ buffer_data (puts_with promise words self.old.puts) self.old.drops }
+        ensures { self.new ≡ buffer_with promise words self.old }
     {
         if let Some(at) = first_put(self.puts.as_slice(), promise) {
             self.puts[at] = MadePut { promise, words };

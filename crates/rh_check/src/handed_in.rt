@@ -6,10 +6,9 @@ ghost use Rattle.rh_check.specs.Users.{AnswersSpec, IsAt};
 
 use crate::spec::UserSpec;
 use rh_words::Name;
-use std::marker::Sync;
 
 /// Handed-in checks by their places, from 0. What a call says of a place holds where there is a check at that place.
-pub trait Checks: Sync {
+pub trait Checks {
     /// Their names.
     ghost names: { Self → List (List ℕ) };
 
@@ -35,6 +34,7 @@ pub trait Checks: Sync {
 }
 
 /// No checks.
+#[derive(Drop)]
 pub struct NoChecks;
 
 impl Checks for NoChecks {

@@ -3,3 +3,7 @@ pub mod Given
 pub mod OwnPuts
 pub mod NextNode
 pub mod NodeEnds
+pub mod Histories
+pub mod Releasing
+pub mod Steps
+pub mod ShownPairs

@@ -1,36 +1,29 @@
--- What a run has given when one more node has ended.
-use Rattle.std.proofs.Common.{◌≡◌, ℕ, zero, suc, ◌+◌, ◌<◌, ◌≤◌, ◌==◌, ◌||◌, List, [], ◌∷◌, ◌++◌, Bool, true, false, cond, Option, Some, None, length, map, replicate, refl, arith, ap, sym, ◌∙◌, subst, inl, inr}
+-- The value of a promise when one more node has ended.
+use Rattle.std.proofs.Common.{◌≡◌, ℕ, ◌+◌, ◌<◌, ◌≤◌, ◌==◌, ◌||◌, List, [], ◌∷◌, Bool, true, Option, Some, None, length, map, refl, arith, ap, sym, ◌∙◌, subst, inl, inr}
 use Rattle.std.proofs.lemmas.Bool.{cases_Bool, cases_lt, cond-true, cond-false, false≢true}
-use Rattle.std.proofs.lemmas.List.{map-append, ext_get_or}
-use Rattle.std.proofs.lemmas.List.FromFn.{length-map-range_with_len}
 use Rattle.std.proofs.lemmas.Option.{none-some, same_Some, slice_get_within, slice_get_past}
-use Rattle.std.specs.List.{AllByRecursion, find, list_any, range_with_len, slice_get}
+use Rattle.std.specs.List.{find, list_any, slice_get}
 use Rattle.std.specs.Option.{IsSomeAnd, option_and_then, option_map}
 use Rattle.rh_injector.specs.declared.faults.Strike.{Strike}
 use Rattle.rh_rules.specs.declared.node.Node.{Node}
-use Rattle.rh_rules.specs.declared.node.PlannedPromise.{PlannedPromise}
 use Rattle.rh_plan.specs.declared.made_put.MadePut.{MadePut}
-use Rattle.rh_plan.specs.declared.outcome.Trial.{Trial}
 use Rattle.rh_plan.specs.declared.outcome.Verdict.{Verdict}
 use Rattle.rh_plan.specs.declared.outcome.Verdict.TheVariants.{Accepted, Corrected, Failed, Skipped, Opened, Closed, Ended}
-use Rattle.rh_plan.specs.Plans.{PlanData, OfNode}
+use Rattle.rh_plan.specs.Plans.{PlanData}
 use Rattle.rh_rules.specs.Lawful.{putter_of}
 use Rattle.rh_plan.specs.Lawful.{IsLawfulPlan}
 use Rattle.rh_rules.specs.Lawful.{IsAmong}
 use Rattle.rh_plan.specs.Buffers.{BufferData, words_put}
 use Rattle.rh_plan.specs.Judging.{NodeResult}
 use Rattle.rh_plan.specs.Results.{results, result_of_node, value_in, value_by, value_put}
-use Rattle.rh_plan.proofs.Rows.{results_next, results-zero, length-results, value_there}
+use Rattle.rh_plan.proofs.Rows.{length-results, value_there}
 use Rattle.rh_plan.proofs.Sources.{node_there}
-use Rattle.rh_plain.specs.Values.{words_at, kept_or, AreGiven}
-use Rattle.rh_schemes.specs.declared.result.NodeResult as code
-use Rattle.rh_schemes.specs.Judges.{result_data}
-use Rattle.rh_plain.specs.Runs.{RunData, AnswersNode, run_data, run_below, run_of_results, made_by, puts_in, counts_put}
-use Rattle.rh_plain.proofs.Tables.{values_in, words_are}
-use Rattle.rh_plain.proofs.OwnPuts.{AreOwn, other_put, puts_own, own_known}
+use Rattle.rh_plain.specs.Values.{kept_or}
+use Rattle.rh_plain.specs.Runs.{made_by, puts_in, counts_put}
+use Rattle.rh_plain.proofs.OwnPuts.{other_put, puts_own}
 
 -- a promise has no value by the first n nodes where its putter is none of them
-value_none : (plan : PlanData) (faults : List Strike) (n q : ℕ) (o : Option ℕ) → putter_of plan.promises q ≡ o → ((u : ℕ) → o ≡ Some u → n ≤ u) → value_in plan (results plan faults n) q ≡ None
+pub value_none : (plan : PlanData) (faults : List Strike) (n q : ℕ) (o : Option ℕ) → putter_of plan.promises q ≡ o → ((u : ℕ) → o ≡ Some u → n ≤ u) → value_in plan (results plan faults n) q ≡ None
 value_none plan faults n q None by late = ap (λ (o : Option ℕ). option_and_then (λ v. option_and_then (value_by q) (slice_get (results plan faults n) v)) o) by
 value_none plan faults n q (Some u) by late =
     let long = length-results plan faults n in
@@ -67,7 +60,7 @@ among_puts : (plan : PlanData) (v q : ℕ) (node : Node) → IsLawfulPlan plan �
 among_puts plan v q node lawful at by = subst (λ (o : Option Node). IsSomeAnd o (λ n. IsAmong n.puts q)) at (lawful.parts.put q v by)
 
 -- the value of a promise when one more node has ended
-next_value : (plan : PlanData) (faults : List Strike) (v q : ℕ) (node : Node) (r : NodeResult) → IsLawfulPlan plan → slice_get plan.nodes v ≡ Some node → r ≡ result_of_node plan faults (results plan faults v) v node
+pub next_value : (plan : PlanData) (faults : List Strike) (v q : ℕ) (node : Node) (r : NodeResult) → IsLawfulPlan plan → slice_get plan.nodes v ≡ Some node → r ≡ result_of_node plan faults (results plan faults v) v node
     → kept_or (value_in plan (results plan faults v) q) (words_put q (made_by node.puts r.verdict r.accepted)) ≡ value_in plan (results plan faults (v + 1)) q
 next_value plan faults v q node r lawful at is = by_putter (putter_of plan.promises q) refl
   where
@@ -111,74 +104,3 @@ next_value plan faults v q node r lawful at is = by_putter (putter_of plan.promi
             ∙ sym (value_there plan faults (v + 1) q v node own at (omega arith))
       ]
     ]
-
--- the tables when one more node has ended
-pub next_run : (plan : PlanData) (faults : List Strike) (v : ℕ) (node : Node) (r : NodeResult) (old : RunData) (verdicts : List Verdict) (trials : List (List Trial)) (values : List (Option (List ℕ)))
-    → IsLawfulPlan plan → slice_get plan.nodes v ≡ Some node → r ≡ result_of_node plan faults (results plan faults v) v node → old ≡ run_below plan faults v
-    → verdicts ≡ old.verdicts ++ r.verdict ∷ [] → trials ≡ old.trials ++ r.trials ∷ [] → AreGiven (λ q. words_put q (made_by node.puts r.verdict r.accepted)) old.values values
-    → run_data verdicts trials values ≡ run_below plan faults (v + 1)
-next_run plan faults v node r old verdicts trials values lawful at is old_is verdicts_are trials_are given =
-    let next : v + 1 ≡ suc v = omega arith in
-    let rs : List NodeResult = results plan faults v in
-    let more : rs ++ r ∷ [] ≡ results plan faults (v + 1) =
-    ap (λ (x : NodeResult). rs ++ x ∷ []) is ∙ sym (results_next plan faults v node at) ∙ ap (results plan faults) (sym next) in
-    let new_verdicts : verdicts ≡ map (λ x. x.verdict) (results plan faults (v + 1)) =
-    verdicts_are ∙ ap (λ (d : RunData). d.verdicts ++ r.verdict ∷ []) old_is ∙ sym (map-append (λ (x : NodeResult). x.verdict) rs (r ∷ [])) ∙ ap (map (λ (x : NodeResult). x.verdict)) more in
-    let new_trials : trials ≡ map (λ x. x.trials) (results plan faults (v + 1)) =
-    trials_are ∙ ap (λ (d : RunData). d.trials ++ r.trials ∷ []) old_is ∙ sym (map-append (λ (x : NodeResult). x.trials) rs (r ∷ [])) ∙ ap (map (λ (x : NodeResult). x.trials)) more in
-    let new_values : values ≡ values_in plan (results plan faults (v + 1)) = next_values (subst (λ (d : RunData). AreGiven (λ q. words_put q (made_by node.puts r.verdict r.accepted)) d.values values) old_is given) in
-    ap (λ (l : List Verdict). run_data l trials values) new_verdicts
-    ∙ ap (λ (l : List (List Trial)). run_data (map (λ (x : NodeResult). x.verdict) (results plan faults (v + 1))) l values) new_trials
-    ∙ ap (λ (l : List (Option (List ℕ))). run_data (map (λ (x : NodeResult). x.verdict) (results plan faults (v + 1))) (map (λ (x : NodeResult). x.trials) (results plan faults (v + 1))) l) new_values
-  where
-    next_values : AreGiven (λ q. words_put q (made_by node.puts r.verdict r.accepted)) (values_in plan (results plan faults v)) values → values ≡ values_in plan (results plan faults (v + 1))
-    next_values given =
-        ext_get_or None values (values_in plan (results plan faults (v + 1)))
-        (given.count ∙ length-map-range_with_len (value_in plan (results plan faults v)) 0 (length plan.promises) ∙ sym (length-map-range_with_len (value_in plan (results plan faults (v + 1))) 0 (length plan.promises)))
-        (λ q below.
-        given.words q ∙ ap (λ (o : Option (List ℕ)). kept_or o (words_put q (made_by node.puts r.verdict r.accepted))) (words_are plan (results plan faults v) q)
-        ∙ next_value plan faults v q node r lawful at is
-        ∙ sym (words_are plan (results plan faults (v + 1)) q))
-
--- a run begins with empty tables
-pub first_run : (plan : PlanData) (faults : List Strike) (ran : RunData) → ran ≡ run_of_results plan [] → ran ≡ run_below plan faults 0
-first_run plan faults ran is = is ∙ ap (run_of_results plan) (sym (results-zero plan faults))
-
--- no promise has words at the beginning
-pub no_values : (plan : PlanData) → replicate (length plan.promises) None ≡ values_in plan []
-no_values plan = none_from 0 (length plan.promises)
-  where
-    none : (q : ℕ) → value_in plan [] q ≡ None
-    none q = none_of (putter_of plan.promises q) refl
-      where
-        none_of : (o : Option ℕ) → putter_of plan.promises q ≡ o → value_in plan [] q ≡ None
-        none_of None by = ap (λ (o : Option ℕ). option_and_then (λ v. option_and_then (value_by q) (slice_get [] v)) o) by
-        none_of (Some u) by = ap (λ (o : Option ℕ). option_and_then (λ v. option_and_then (value_by q) (slice_get [] v)) o) by
-
-    none_from : (k n : ℕ) → replicate n None ≡ map (value_in plan []) (range_with_len k n)
-    none_from k zero = refl
-    none_from k (suc n) =
-        ap (λ (l : List (Option (List ℕ))). None ∷ l) (none_from (k + 1) n)
-        ∙ ap (λ (o : Option (List ℕ)). o ∷ map (value_in plan []) (range_with_len (k + 1) n)) (sym (none k))
-
--- the tables when a node that ended as the definition says is recorded
-pub recorded : (plan : PlanData) (faults : List Strike) (v : ℕ) (ended : code.NodeResult) (old : RunData) (own : List ℕ) (puts : List MadePut) (verdicts : List Verdict) (trials : List (List Trial)) (values : List (Option (List ℕ)))
-    → IsLawfulPlan plan → v < length plan.nodes → AnswersNode plan faults v ended → old ≡ run_below plan faults v → OfNode plan v (λ node. own ≡ node.puts) → puts ≡ made_by own ended.verdict ended.accepted
-    → verdicts ≡ old.verdicts ++ ended.verdict ∷ [] → trials ≡ old.trials ++ ended.trials ∷ [] → AreGiven (λ q. words_put q puts) old.values values
-    → run_data verdicts trials values ≡ run_below plan faults (v + 1)
-recorded plan faults v ended old own puts verdicts trials values lawful within answers old_is own_are puts_are verdicts_are trials_are given =
-    let (node, at) = node_there plan v within in
-    let made : puts ≡ made_by node.puts ended.verdict ended.accepted = puts_are ∙ ap (λ (l : List ℕ). made_by l ended.verdict ended.accepted) (own_are node at) in
-    next_run plan faults v node (result_data ended) old verdicts trials values lawful at (answers node at) old_is verdicts_are trials_are
-    (subst (λ (l : List MadePut). AreGiven (λ q. words_put q l) old.values values) made given)
-
--- what a recorded node puts is put to promises that are there
-pub recorded_known : (plan : PlanData) (faults : List Strike) (v : ℕ) (ended : code.NodeResult) (old : RunData) (own : List ℕ) (puts : List MadePut)
-    → IsLawfulPlan plan → v < length plan.nodes → AnswersNode plan faults v ended → old ≡ run_below plan faults v → OfNode plan v (λ node. own ≡ node.puts) → puts ≡ made_by own ended.verdict ended.accepted
-    → AllByRecursion (λ p. p.promise < length old.values) puts
-recorded_known plan faults v ended old own puts lawful within answers old_is own_are puts_are =
-    let (node, at) = node_there plan v within in
-    let made : puts ≡ made_by node.puts ended.verdict ended.accepted = puts_are ∙ ap (λ (l : List ℕ). made_by l ended.verdict ended.accepted) (own_are node at) in
-    let long : length old.values ≡ length plan.promises = ap (λ (d : RunData). length d.values) old_is ∙ length-map-range_with_len (value_in plan (results plan faults v)) 0 (length plan.promises) in
-    subst (AllByRecursion (λ (p : MadePut). p.promise < length old.values)) (sym made)
-    (own_known plan v (length old.values) (made_by node.puts ended.verdict ended.accepted) long (puts_own plan faults v node lawful at (result_data ended) (answers node at)))

@@ -1,9 +1,9 @@
 -- A node puts to promises of its own alone.
-use Rattle.std.proofs.Common.{◌≡◌, ◌≢◌, ℕ, suc, ◌+◌, ◌<◌, ◌≤◌, ◌==◌, List, [], ◌∷◌, Bool, true, false, cond, Option, Some, None, length, map, refl, arith, ap, sym, ◌∙◌, subst, inl, inr, eqb-true, eq-eqb, ne_eqb}
+use Rattle.std.proofs.Common.{◌≡◌, ◌≢◌, ℕ, suc, ◌+◌, ◌<◌, ◌≤◌, ◌==◌, List, [], ◌∷◌, true, false, cond, Option, Some, None, length, map, refl, arith, ap, sym, ◌∙◌, subst, inl, inr, eqb-true, eq-eqb, ne_eqb}
 use Rattle.std.proofs.lemmas.Bool.{cases_Bool, cond-true, cond-false}
 use Rattle.std.proofs.lemmas.List.Sums.{sum_by-cons}
-use Rattle.std.proofs.lemmas.Option.{none-some, same_Some, slice_get_cases}
-use Rattle.std.specs.List.{AllByRecursion, count_by, find, slice_get}
+use Rattle.std.proofs.lemmas.Option.{none-some, slice_get_cases}
+use Rattle.std.specs.List.{AllByRecursion, find, slice_get}
 use Rattle.std.specs.Option.{option_and_then, option_map}
 use Rattle.rh_injector.specs.declared.faults.Strike.{Strike}
 use Rattle.rh_rules.specs.declared.node.Node.{Node}
@@ -14,7 +14,7 @@ use Rattle.rh_rules.specs.Bodies.{promises_put}
 use Rattle.rh_plan.specs.declared.made_put.MadePut.{MadePut}
 use Rattle.rh_plan.specs.declared.outcome.Verdict.{Verdict}
 use Rattle.rh_plan.specs.declared.outcome.Verdict.TheVariants.{Accepted, Corrected, Failed, Skipped, Opened, Closed, Ended}
-use Rattle.rh_plan.specs.Plans.{PlanData}
+use Rattle.rh_plan.specs.Plans.{PlanData, shapes_in}
 use Rattle.rh_rules.specs.Lawful.{putter_of}
 use Rattle.rh_plan.specs.Lawful.{IsLawfulPlan}
 use Rattle.rh_rules.specs.Lawful.{IsLawfulKind}
@@ -59,7 +59,7 @@ all_put P ys puts few all = each puts (λ q some1. all_often P ys q all (let a =
     )
 
 -- the body of a lawful node puts no promise more often than the node may
-body_few : (plan : PlanData) (node : Node) (k : Kind) → IsLawfulKind plan.promises node k → (q : ℕ) → often q (promises_put node.body) ≤ often q node.puts
+body_few : (plan : PlanData) (node : Node) (k : Kind) → IsLawfulKind (shapes_in plan) plan.promises node k → (q : ℕ) → often q (promises_put node.body) ≤ often q node.puts
 body_few plan node Task lawful q = let a = ap (often q) lawful.puts in omega arith
 body_few plan node Group lawful q = let a = ap (λ b. often q (promises_put b)) lawful.0 in omega arith
 body_few plan node Scope lawful q = let a = ap (λ b. often q (promises_put b)) lawful.body in omega arith

@@ -1,48 +1,36 @@
--- What the tables of a run say is what the results say.
-use Rattle.std.proofs.Common.{◌≡◌, ℕ, ◌<◌, List, [], ◌∷◌, Bool, cond, ◌≤◌, Option, Some, None, length, map, is_some, unwrap_or, slice_index_or, refl, arith, ap, sym, ◌∙◌, inl, inr}
-use Rattle.std.proofs.lemmas.Bool.{cases_lt}
-use Rattle.std.proofs.lemmas.List.{get_or_past}
-use Rattle.std.proofs.lemmas.List.FromFn.{get_or-map-range_with_len, length-map-range_with_len}
+-- What is known of verdicts and words is what the results say.
+use Rattle.std.proofs.Common.{◌≡◌, ℕ, List, [], ◌∷◌, Bool, cond, ◌≤◌, Option, Some, None, length, map, is_some, unwrap_or, refl, ap, ◌∙◌}
 use Rattle.std.proofs.lemmas.Option.{slice_get-map, slice_get_past}
-use Rattle.std.specs.List.{filter, range_with_len, slice_get}
+use Rattle.std.specs.List.{AllByRecursion, filter, slice_get}
 use Rattle.std.specs.Option.{option_map, option_and_then}
 use Rattle.rh_rules.specs.declared.node.PlannedPromise.{PlannedPromise}
 use Rattle.rh_plan.specs.declared.outcome.Verdict.{Verdict}
 use Rattle.rh_plan.specs.Plans.{PlanData}
-use Rattle.rh_rules.specs.Lawful.{putter_of}
 use Rattle.rh_plan.specs.Judging.{NodeResult}
 use Rattle.rh_plan.specs.Results.{is_opened, passes_by, group_opened, count_ended, value_in, value_by, inputs_in, present_in}
 use Rattle.rh_plain.specs.Values.{words_at, has_words, awaited_words}
 use Rattle.rh_plain.specs.Endings.{verdict_passes, has_opened, count_of}
-
--- the words of promises by the results of the first nodes
-abbrev pub values_in : PlanData → List NodeResult → List (Option (List ℕ))
-values_in plan rs = map (value_in plan rs) (range_with_len 0 (length plan.promises))
 
 -- a promise that is not there has no value
 pub value_beyond : (plan : PlanData) (rs : List NodeResult) (q : ℕ) → length plan.promises ≤ q → value_in plan rs q ≡ None
 value_beyond plan rs q past =
     ap (λ (o : Option PlannedPromise). option_and_then (λ v. option_and_then (value_by q) (slice_get rs v)) (option_and_then (λ p. p.putter) o)) (slice_get_past plan.promises q past)
 
-pub words_are : (plan : PlanData) (rs : List NodeResult) (q : ℕ) → words_at (values_in plan rs) q ≡ value_in plan rs q
-words_are plan rs q = elim (cases_lt q (length plan.promises)) [
-  | inl within ↦ get_or-map-range_with_len (value_in plan rs) 0 (length plan.promises) q q None within (omega arith)
-  | inr past ↦
-      let long = length-map-range_with_len (value_in plan rs) 0 (length plan.promises) in
-      get_or_past (values_in plan rs) q None (omega arith) ∙ sym (value_beyond plan rs q past)
-]
+-- the words of these promises are there
+abbrev pub AreThere : PlanData → List NodeResult → List (Option (List ℕ)) → List ℕ → Type 0
+AreThere plan rs values awaits = AllByRecursion (λ q. words_at values q ≡ value_in plan rs q) awaits
 
-pub inputs_are : (plan : PlanData) (rs : List NodeResult) (awaits : List ℕ) → awaited_words (values_in plan rs) awaits ≡ inputs_in plan rs awaits
-inputs_are plan rs [] = refl
-inputs_are plan rs (q ∷ awaits) =
-    ap (λ (o : Option (List ℕ)). unwrap_or o [] ∷ awaited_words (values_in plan rs) awaits) (words_are plan rs q)
-    ∙ ap (λ (l : List (List ℕ)). unwrap_or (value_in plan rs q) [] ∷ l) (inputs_are plan rs awaits)
+pub inputs_are : (plan : PlanData) (rs : List NodeResult) (values : List (Option (List ℕ))) (awaits : List ℕ) → AreThere plan rs values awaits → awaited_words values awaits ≡ inputs_in plan rs awaits
+inputs_are plan rs values [] there = refl
+inputs_are plan rs values (q ∷ awaits) there =
+    ap (λ (o : Option (List ℕ)). unwrap_or o [] ∷ awaited_words values awaits) there.0
+    ∙ ap (λ (l : List (List ℕ)). unwrap_or (value_in plan rs q) [] ∷ l) (inputs_are plan rs values awaits there.1)
 
-pub present_are : (plan : PlanData) (rs : List NodeResult) (awaits : List ℕ) → map (has_words (values_in plan rs)) awaits ≡ present_in plan rs awaits
-present_are plan rs [] = refl
-present_are plan rs (q ∷ awaits) =
-    ap (λ (o : Option (List ℕ)). is_some o ∷ map (has_words (values_in plan rs)) awaits) (words_are plan rs q)
-    ∙ ap (λ (l : List Bool). is_some (value_in plan rs q) ∷ l) (present_are plan rs awaits)
+pub present_are : (plan : PlanData) (rs : List NodeResult) (values : List (Option (List ℕ))) (awaits : List ℕ) → AreThere plan rs values awaits → map (has_words values) awaits ≡ present_in plan rs awaits
+present_are plan rs values [] there = refl
+present_are plan rs values (q ∷ awaits) there =
+    ap (λ (o : Option (List ℕ)). is_some o ∷ map (has_words values) awaits) there.0
+    ∙ ap (λ (l : List Bool). is_some (value_in plan rs q) ∷ l) (present_are plan rs values awaits there.1)
 
 passes_at : (test : Verdict → Bool) (o : Option NodeResult) → verdict_passes test (option_map (λ r. r.verdict) o) ≡ passes_by test o
 passes_at test None = refl

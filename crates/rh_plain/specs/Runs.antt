@@ -1,8 +1,7 @@
--- What a run of a plan gives, in tables: by the number of a node how it and its attempts ended, by the number of a promise its words.
-use Rattle.std.specs.Prelude.{ℕ, ◌≡◌, ◌≢◌, List, [], ◌∷◌, Option, Some, None, map, length, slice_get}
-use Rattle.std.specs.List.{range_with_len}
+-- How the nodes of a plan are run one after another.
+use Rattle.std.specs.Prelude.{ℕ, ◌≡◌, List, [], ◌∷◌, Option, Some, None, map, slice_get}
+use Rattle.std.specs.List.{AllByRecursion}
 use Rattle.rh_injector.specs.declared.faults.Strike.{Strike}
-use Rattle.rh_plan.specs.declared.outcome.Trial.{Trial}
 use Rattle.rh_plan.specs.declared.outcome.Verdict.{Verdict}
 use Rattle.rh_plan.specs.declared.outcome.Verdict.TheVariants.{Accepted, Corrected, Failed, Skipped, Opened, Closed, Ended}
 use Rattle.rh_plan.specs.declared.made_put.MadePut.{MadePut}
@@ -10,30 +9,38 @@ use Rattle.rh_rules.specs.declared.node.Node.{Node}
 use Rattle.rh_rules.specs.declared.node.Kind.TheVariants.{Task}
 use Rattle.rh_plan.specs.Plans.{PlanData, OfNode}
 use Rattle.rh_plan.specs.Buffers.{BufferData}
-use Rattle.rh_plan.specs.Judging.{NodeResult}
 use Rattle.rh_plan.specs.Results.{results, result_of_node, value_in, cause_in}
 use Rattle.rh_schemes.specs.Judges.{result_data}
+use Rattle.rh_journal.specs.Own.{run_of}
+use Rattle.rh_journal.specs.OneThread.{events_below}
 use Rattle.rh_schemes.specs.declared.result.NodeResult as code
+use Rattle.rh_plain.specs.Values.{words_at}
+use Rattle.rh_plain.specs.Drawing.{Drawn, HasDrawn}
+use Rattle.rh_plain.specs.Holding.{HoldsWords}
 
-pub record RunData : Type 0 where
+-- what is known between two nodes: how the lower nodes ended, the words of promises, and the journal
+pub record Progress : Type 0 where
   pub verdicts : List Verdict
-  pub trials : List (List Trial)
   pub values : List (Option (List ℕ))
+  pub drawn : Drawn
 
-abbrev pub run_data : List Verdict → List (List Trial) → List (Option (List ℕ)) → RunData
-run_data verdicts trials values = record { verdicts = verdicts; trials = trials; values = values }
+abbrev pub progress : List Verdict → List (Option (List ℕ)) → Drawn → Progress
+progress verdicts values drawn = record { verdicts = verdicts; values = values; drawn = drawn }
 
--- the tables of these results of the first nodes
-abbrev pub run_of_results : PlanData → List NodeResult → RunData
-run_of_results plan rs = run_data (map (λ r. r.verdict) rs) (map (λ r. r.trials) rs) (map (value_in plan rs) (range_with_len 0 (length plan.promises)))
+-- The first v nodes have ended.
+pub record IsSoFar (plan : PlanData) (faults : List Strike) (v : ℕ) (p : Progress) : Type 0 where
+  pub ended : p.verdicts ≡ map (λ r. r.verdict) (results plan faults v)
+  pub drawn : HasDrawn plan (events_below (run_of plan faults) v) p.drawn
+  pub held : HoldsWords plan (results plan faults v) (events_below (run_of plan faults) v) p.values
 
--- what a run has given when the first n nodes have ended
-abbrev pub run_below : PlanData → List Strike → ℕ → RunData
-run_below plan faults n = run_of_results plan (results plan faults n)
+-- the words that the node v awaits are there
+abbrev pub HasAwaited : PlanData → List Strike → ℕ → List (Option (List ℕ)) → Type 0
+HasAwaited plan faults v values = OfNode plan v (λ node. AllByRecursion (λ q. words_at values q ≡ value_in plan (results plan faults v) q) node.awaits)
 
--- What the run of a plan under these faults gives.
-abbrev pub run_of : PlanData → List Strike → RunData
-run_of plan faults = run_below plan faults (length plan.nodes)
+-- Before the node v it is known how the lower nodes ended, and the words that it awaits are there.
+pub record IsBefore (plan : PlanData) (faults : List Strike) (v : ℕ) (verdicts : List Verdict) (values : List (Option (List ℕ))) : Type 0 where
+  pub ended : verdicts ≡ map (λ r. r.verdict) (results plan faults v)
+  pub awaited : HasAwaited plan faults v values
 
 -- the node v ends as the definition says, given the results of the lower nodes
 abbrev pub AnswersNode : PlanData → List Strike → ℕ → code.NodeResult → Type 0

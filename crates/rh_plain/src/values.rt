@@ -1,6 +1,6 @@
 //! The words of promises.
 
-ghost use Rattle.std.specs.Prelude.{◌≡◌, ◌<◌, ◌∷◌, [], None, IfOk, length, unwrap_or, replicate};
+ghost use Rattle.std.specs.Prelude.{◌≡◌, ◌<◌, ◌∷◌, [], None, IfOk, length, unwrap_or, replicate, slice_set};
 ghost use Rattle.std.specs.List.{AllByRecursion};
 ghost use Rattle.rh_plan.specs.Buffers.{words_put};
 ghost use Rattle.rh_plain.specs.Values.{has_words, words_at, kept_or, AreGiven};
@@ -34,13 +34,6 @@ impl Values {
             items.push(None)?;
         }
         Ok(Values { items })
-    }
-
-    /// The words by the numbers of promises.
-    pub(crate) fn as_slice(&self) -> &[Option<Words>]
-        ensures { result.now ≡ self.now }
-    {
-        self.items.as_slice()
     }
 
     /// Whether a promise has words.
@@ -82,5 +75,20 @@ impl Values {
         for MadePut { promise, words } in puts {
             self.give(promise, words);
         }
+    }
+
+    /// Gives the words of a promise up.
+    pub(crate) fn free(&mut self, promise: u32)
+        requires { promise < length self.old }
+        ensures { self.new ≡ slice_set self.old promise None }
+    {
+        self.items[promise as usize] = None;
+    }
+
+    /// The words by the numbers of promises, without a copy.
+    pub(crate) fn into_items(self) -> Vec<Option<Words>>
+        ensures { result.items ≡ self }
+    {
+        self.items
     }
 }

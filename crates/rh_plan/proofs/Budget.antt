@@ -13,7 +13,8 @@ use Rattle.rh_plan.specs.Plans.{PlanData, edges_into_kind}
 use Rattle.rh_plan.specs.Lawful.{IsLawfulPlan}
 use Rattle.rh_plan.specs.Checking.{first_failing}
 use Rattle.rh_plan.specs.Judging.{NodeResult}
-use Rattle.rh_plan.specs.Attempts.{attempts_made, correction, judged}
+use Rattle.rh_plan.specs.Correcting.{correction}
+use Rattle.rh_plan.specs.Attempts.{attempts_made, judged}
 use Rattle.rh_plan.specs.Results.{results, result_of_node, result_by_kind, task_result, group_result, cause_in, passes_by, is_skipped, ending_of}
 use Rattle.rh_plan.specs.Budgets.{DependsOn, itself, through, fault_free_inputs, IsSkippedFaultFree, KeepsBudget, IsWithinBudget, BudgetsAreKept}
 use Rattle.rh_plan.proofs.Dependencies.{IsEdgeOf, edges_there, forward_at}

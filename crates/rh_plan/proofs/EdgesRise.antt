@@ -9,6 +9,7 @@ use Rattle.rh_rules.specs.declared.node.Kind.{Kind}
 use Rattle.rh_rules.specs.declared.node.Kind.TheVariants.{Task, Group, Scope}
 use Rattle.rh_rules.specs.declared.node.Node.{Node}
 use Rattle.rh_rules.specs.declared.node.PlannedPromise.{PlannedPromise}
+use Rattle.rh_rules.specs.Bodies.{Shape}
 use Rattle.rh_rules.specs.Lawful.{AreLawful, IsLawfulNode, IsLawfulKind, IsEnclosedBelow, putter_of}
 use Rattle.rh_plan.specs.Plans.{await_edge, order_edge, start_edges, edges_into_kind, edges_into, edges_from}
 use Rattle.rh_plan.specs.Lawful.{IsForward}
@@ -33,30 +34,30 @@ group_rises : (ns : List Node) (n v : ℕ) → v < n → (g : Option ℕ) → Is
 group_rises ns n v within None enclosed = tt
 group_rises ns n v within (Some g) enclosed = (record { rises = enclosed.0; within = within }, tt)
 
-kind_rises : (ps : List PlannedPromise) (ns : List Node) (n v : ℕ) (node : Node) → IsLawfulNode ps ns v node → v < n → (k : Kind) → AllByRecursion (IsForward n) (edges_into_kind ps v node k)
-kind_rises ps ns n v node lawful within Task = all_append (IsForward n) (map (await_edge ps v) node.awaits) (map (order_edge v) (option_to_list node.group)) (awaits_rise ps n v within node.awaits lawful.awaited) (group_rises ns n v within node.group lawful.enclosed)
-kind_rises ps ns n v node lawful within Group = all_append (IsForward n) (map (await_edge ps v) node.awaits) (map (order_edge v) (option_to_list node.group)) (awaits_rise ps n v within node.awaits lawful.awaited) (group_rises ns n v within node.group lawful.enclosed)
-kind_rises ps ns n v node lawful within Scope = orders_rise n v within node.members lawful.members
+kind_rises : (shapes : List Shape) (ps : List PlannedPromise) (ns : List Node) (n v : ℕ) (node : Node) → IsLawfulNode shapes ps ns v node → v < n → (k : Kind) → AllByRecursion (IsForward n) (edges_into_kind ps v node k)
+kind_rises shapes ps ns n v node lawful within Task = all_append (IsForward n) (map (await_edge ps v) node.awaits) (map (order_edge v) (option_to_list node.group)) (awaits_rise ps n v within node.awaits lawful.awaited) (group_rises ns n v within node.group lawful.enclosed)
+kind_rises shapes ps ns n v node lawful within Group = all_append (IsForward n) (map (await_edge ps v) node.awaits) (map (order_edge v) (option_to_list node.group)) (awaits_rise ps n v within node.awaits lawful.awaited) (group_rises ns n v within node.group lawful.enclosed)
+kind_rises shapes ps ns n v node lawful within Scope = orders_rise n v within node.members lawful.members
 
 -- the nodes from number v on are lawful
-abbrev AreLawfulFrom : List PlannedPromise → List Node → ℕ → List Node → Type 0
-AreLawfulFrom ps ns v nodes = (i : ℕ) (node : Node) → slice_get nodes i ≡ Some node → IsLawfulNode ps ns (v + i) node
+abbrev AreLawfulFrom : List Shape → List PlannedPromise → List Node → ℕ → List Node → Type 0
+AreLawfulFrom shapes ps ns v nodes = (i : ℕ) (node : Node) → slice_get nodes i ≡ Some node → IsLawfulNode shapes ps ns (v + i) node
 
-lawful_first : (ps : List PlannedPromise) (ns : List Node) (v : ℕ) (node : Node) (nodes : List Node) → AreLawfulFrom ps ns v (node ∷ nodes) → IsLawfulNode ps ns v node
-lawful_first ps ns v node nodes lawful = let at : v + 0 ≡ v = omega arith in subst (λ (w : ℕ). IsLawfulNode ps ns w node) at (lawful 0 node refl)
+lawful_first : (shapes : List Shape) (ps : List PlannedPromise) (ns : List Node) (v : ℕ) (node : Node) (nodes : List Node) → AreLawfulFrom shapes ps ns v (node ∷ nodes) → IsLawfulNode shapes ps ns v node
+lawful_first shapes ps ns v node nodes lawful = let at : v + 0 ≡ v = omega arith in subst (λ (w : ℕ). IsLawfulNode shapes ps ns w node) at (lawful 0 node refl)
 
-lawful_rest : (ps : List PlannedPromise) (ns : List Node) (v : ℕ) (node : Node) (nodes : List Node) → AreLawfulFrom ps ns v (node ∷ nodes) → AreLawfulFrom ps ns (v + 1) nodes
-lawful_rest ps ns v node nodes lawful i other is = let at : v + suc i ≡ v + 1 + i = omega arith in subst (λ (w : ℕ). IsLawfulNode ps ns w other) at (lawful (suc i) other is)
+lawful_rest : (shapes : List Shape) (ps : List PlannedPromise) (ns : List Node) (v : ℕ) (node : Node) (nodes : List Node) → AreLawfulFrom shapes ps ns v (node ∷ nodes) → AreLawfulFrom shapes ps ns (v + 1) nodes
+lawful_rest shapes ps ns v node nodes lawful i other is = let at : v + suc i ≡ v + 1 + i = omega arith in subst (λ (w : ℕ). IsLawfulNode shapes ps ns w other) at (lawful (suc i) other is)
 
-edges_rise_from : (ps : List PlannedPromise) (ns : List Node) (n v : ℕ) (nodes : List Node) → AreLawfulFrom ps ns v nodes → v + length nodes ≤ n → AllByRecursion (IsForward n) (edges_from ps v nodes)
-edges_rise_from ps ns n v [] lawful within = tt
-edges_rise_from ps ns n v (node ∷ nodes) lawful within =
+edges_rise_from : (shapes : List Shape) (ps : List PlannedPromise) (ns : List Node) (n v : ℕ) (nodes : List Node) → AreLawfulFrom shapes ps ns v nodes → v + length nodes ≤ n → AllByRecursion (IsForward n) (edges_from ps v nodes)
+edges_rise_from shapes ps ns n v [] lawful within = tt
+edges_rise_from shapes ps ns n v (node ∷ nodes) lawful within =
     all_append (IsForward n) (edges_into ps v node) (edges_from ps (v + 1) nodes)
-    (kind_rises ps ns n v node (lawful_first ps ns v node nodes lawful) (omega arith) node.kind)
-    (edges_rise_from ps ns n (v + 1) nodes (lawful_rest ps ns v node nodes lawful) (omega arith))
+    (kind_rises shapes ps ns n v node (lawful_first shapes ps ns v node nodes lawful) (omega arith) node.kind)
+    (edges_rise_from shapes ps ns n (v + 1) nodes (lawful_rest shapes ps ns v node nodes lawful) (omega arith))
 
-pub edges_rise : (ns : List Node) (ps : List PlannedPromise) → AreLawful ns ps → AllByRecursion (IsForward (length ns)) (edges_from ps 0 ns)
-edges_rise ns ps lawful = edges_rise_from ps ns (length ns) 0 ns (λ i node is. let at : i ≡ 0 + i = omega arith in subst (λ (w : ℕ). IsLawfulNode ps ns w node) at (lawful.nodes i node is)) (omega arith)
+pub edges_rise : (shapes : List Shape) (ns : List Node) (ps : List PlannedPromise) → AreLawful shapes ns ps → AllByRecursion (IsForward (length ns)) (edges_from ps 0 ns)
+edges_rise shapes ns ps lawful = edges_rise_from shapes ps ns (length ns) 0 ns (λ i node is. let at : i ≡ 0 + i = omega arith in subst (λ (w : ℕ). IsLawfulNode shapes ps ns w node) at (lawful.nodes i node is)) (omega arith)
 
 -- a number that stands in a list of numbers below v is below v
 among_below : (v : ℕ) (numbers : List ℕ) (q : ℕ) → AllByRecursion (λ u. u < v) numbers → list_any (nat_eq q) numbers ≡ true → q < v
@@ -70,33 +71,33 @@ group_few : (g : Option ℕ) (v : ℕ) → length (map (order_edge v) (option_to
 group_few None v = omega arith
 group_few (Some g) v = omega arith
 
-start_few : (ps : List PlannedPromise) (ns : List Node) (v : ℕ) (node : Node) → IsLawfulNode ps ns v node → length (start_edges ps v node) ≤ 17
-start_few ps ns v node lawful =
+start_few : (shapes : List Shape) (ps : List PlannedPromise) (ns : List Node) (v : ℕ) (node : Node) → IsLawfulNode shapes ps ns v node → length (start_edges ps v node) ≤ 17
+start_few shapes ps ns v node lawful =
     let both = length-append (map (await_edge ps v) node.awaits) (map (order_edge v) (option_to_list node.group)) in
     let awaits = length-map node.awaits (await_edge ps v) in
     let few = lawful.few_awaits in
     let group = group_few node.group v in
     omega arith
 
-kind_few : (ps : List PlannedPromise) (ns : List Node) (v : ℕ) (node : Node) → IsLawfulNode ps ns v node → v < 16384 → (k : Kind) → node.kind ≡ k → length (edges_into_kind ps v node k) ≤ 16401
-kind_few ps ns v node lawful within Task kind = let few = start_few ps ns v node lawful in omega arith
-kind_few ps ns v node lawful within Group kind = let few = start_few ps ns v node lawful in omega arith
-kind_few ps ns v node lawful within Scope kind =
-    let scope = subst (IsLawfulKind ps node) kind lawful.kind in
+kind_few : (shapes : List Shape) (ps : List PlannedPromise) (ns : List Node) (v : ℕ) (node : Node) → IsLawfulNode shapes ps ns v node → v < 16384 → (k : Kind) → node.kind ≡ k → length (edges_into_kind ps v node k) ≤ 16401
+kind_few shapes ps ns v node lawful within Task kind = let few = start_few shapes ps ns v node lawful in omega arith
+kind_few shapes ps ns v node lawful within Group kind = let few = start_few shapes ps ns v node lawful in omega arith
+kind_few shapes ps ns v node lawful within Scope kind =
+    let scope = subst (IsLawfulKind shapes ps node) kind lawful.kind in
     let long = length-map node.members (order_edge v) in
     let few = length-le_from_distinct_below node.members v scope.members_once (λ q among. among_below v node.members q lawful.members among) in
     omega arith
 
-edges_few_from : (ps : List PlannedPromise) (ns : List Node) (v : ℕ) (nodes : List Node) → AreLawfulFrom ps ns v nodes → v + length nodes ≤ 16384 → length (edges_from ps v nodes) ≤ length nodes * 16401
-edges_few_from ps ns v [] lawful within = omega arith
-edges_few_from ps ns v (node ∷ nodes) lawful within =
-    let here = kind_few ps ns v node (lawful_first ps ns v node nodes lawful) (omega arith) node.kind refl in
-    let rest = edges_few_from ps ns (v + 1) nodes (lawful_rest ps ns v node nodes lawful) (omega arith) in
+edges_few_from : (shapes : List Shape) (ps : List PlannedPromise) (ns : List Node) (v : ℕ) (nodes : List Node) → AreLawfulFrom shapes ps ns v nodes → v + length nodes ≤ 16384 → length (edges_from ps v nodes) ≤ length nodes * 16401
+edges_few_from shapes ps ns v [] lawful within = omega arith
+edges_few_from shapes ps ns v (node ∷ nodes) lawful within =
+    let here = kind_few shapes ps ns v node (lawful_first shapes ps ns v node nodes lawful) (omega arith) node.kind refl in
+    let rest = edges_few_from shapes ps ns (v + 1) nodes (lawful_rest shapes ps ns v node nodes lawful) (omega arith) in
     let both = length-append (edges_into ps v node) (edges_from ps (v + 1) nodes) in
     omega arith
 
-pub edges_few : (ns : List Node) (ps : List PlannedPromise) → AreLawful ns ps → length (edges_from ps 0 ns) < 2 ^ 32
-edges_few ns ps lawful =
+pub edges_few : (shapes : List Shape) (ns : List Node) (ps : List PlannedPromise) → AreLawful shapes ns ps → length (edges_from ps 0 ns) < 2 ^ 32
+edges_few shapes ns ps lawful =
     let few_nodes : length ns ≤ 16384 = lawful.few_nodes in
-    let few = edges_few_from ps ns 0 ns (λ i node is. let at : i ≡ 0 + i = omega arith in subst (λ (w : ℕ). IsLawfulNode ps ns w node) at (lawful.nodes i node is)) (omega arith) in
+    let few = edges_few_from shapes ps ns 0 ns (λ i node is. let at : i ≡ 0 + i = omega arith in subst (λ (w : ℕ). IsLawfulNode shapes ps ns w node) at (lawful.nodes i node is)) (omega arith) in
     omega arith

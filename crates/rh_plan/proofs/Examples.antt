@@ -1,26 +1,34 @@
 -- Small plans worked out: the results of the definitions, computed.
-use Rattle.std.proofs.Common.{◌≡◌, ℕ, List, [], ◌∷◌, Option, Some, None, false, true, map, refl, arith, sym, subst, inl, inr}
+use Rattle.std.proofs.Common.{◌≡◌, ℕ, zero, suc, ◌<◌, List, [], ◌∷◌, Option, Some, None, false, true, map, slice_index, unwrap_or, nat_eq, refl, arith, sym, subst, ap, inl, inr}
 use Rattle.std.proofs.lemmas.Bool.{false≢true}
 use Rattle.std.proofs.lemmas.Option.{same_Some}
-use Rattle.rh_plan.specs.Budgets.{IsWithinBudget, KeepsBudget, attempts_named}
+use Rattle.rh_plan.specs.Budgets.{IsWithinBudget, KeepsBudget, ReplaysWithin, attempts_named, fault_free_inputs, fault_free_buffer}
+use Rattle.rh_injector.specs.Faults.{names_attempt}
+use Rattle.rh_plan.specs.Attempts.{attempt_of}
 use Rattle.rh_injector.specs.declared.faults.Strike.{Strike}
 use Rattle.rh_rules.specs.declared.body.Step.{Step}
-use Rattle.rh_rules.specs.declared.body.Step.TheVariants.{Lit, Add, Put, DropAwait}
+use Rattle.rh_rules.specs.declared.body.Step.TheVariants.{Lit, Add, Sum, Product as ProductStep, Put, DropAwait}
 use Rattle.rh_rules.specs.declared.node.Node.{Node}
 use Rattle.rh_rules.specs.declared.node.Kind.TheVariants.{Task, Group, Scope}
 use Rattle.rh_rules.specs.declared.node.Scheme.{Scheme}
-use Rattle.rh_rules.specs.declared.node.Scheme.TheVariants.{Plain, Replicate, Replay}
+use Rattle.rh_rules.specs.declared.node.Scheme.TheVariants.{Plain, Replicate, Replay, Abft}
 use Rattle.rh_rules.specs.declared.node.PlannedPromise.{PlannedPromise}
-use Rattle.rh_check.specs.declared.spec.Spec.TheVariants.{Range, Total, Linear}
+use Rattle.rh_check.specs.declared.spec.Spec.{Spec}
+use Rattle.rh_check.specs.declared.spec.Spec.TheVariants.{Range, Total, Linear, Product}
 use Rattle.rh_plan.specs.declared.outcome.Cause.TheVariants as cause
 use Rattle.rh_plan.specs.declared.outcome.Trial.{Trial}
 use Rattle.rh_plan.specs.declared.outcome.Trial.TheVariants as trial
 use Rattle.rh_plan.specs.declared.outcome.Verdict.{Verdict}
-use Rattle.rh_plan.specs.declared.outcome.Verdict.TheVariants.{Accepted, Failed, Skipped, Opened, Closed, Ended}
+use Rattle.rh_plan.specs.declared.outcome.Verdict.TheVariants.{Accepted, Corrected, Failed, Skipped, Opened, Closed, Ended}
 use Rattle.rh_rules.specs.Kept.{KeptCheck}
+use Rattle.rh_sparse.specs.declared.matrix.Cell.{Cell}
+use Rattle.rh_sparse.specs.Matrix.{MatrixData}
+use Rattle.rh_sparse.specs.Product.{row_product}
+use Rattle.rh_sparse.specs.Checksums.{entry, plain_difference, weighted_difference}
+use Rattle.rh_sparse.specs.Correction.{restored}
 use Rattle.rh_plan.specs.Plans.{PlanData, edges_from}
 use Rattle.rh_plan.specs.Derived.{levels, levels_by, edges_in, references}
-use Rattle.rh_plan.specs.Buffers.{buffer_of}
+use Rattle.rh_plan.specs.Buffers.{BufferData, buffer_of, words_put}
 use Rattle.rh_check.specs.Checks.{spec_passes}
 use Rattle.rh_plan.specs.Checking.{first_failing}
 use Rattle.rh_plan.specs.Judging.{are_same, replicated, replayed}
@@ -36,13 +44,13 @@ abbrev own_promise : ℕ → PlannedPromise
 own_promise v = record { name = []; len = 3; putter = Some v; temp = false; scope = true }
 
 abbrev task : Scheme → Option ℕ → List ℕ → List ℕ → List Step → List KeptCheck → Node
-task scheme group awaits puts body checks = record { name = []; kind = Task; scheme = scheme; group = group; awaits = awaits; members = []; puts = puts; body = body; checks = checks }
+task scheme group awaits puts body checks = record { name = []; kind = Task; scheme = scheme; group = group; awaits = awaits; members = []; puts = puts; body = body; checks = checks; lets = [] }
 
 abbrev group_node : Option ℕ → List ℕ → Node
-group_node group awaits = record { name = []; kind = Group; scheme = Plain; group = group; awaits = awaits; members = []; puts = []; body = []; checks = [] }
+group_node group awaits = record { name = []; kind = Group; scheme = Plain; group = group; awaits = awaits; members = []; puts = []; body = []; checks = []; lets = [] }
 
 abbrev scope_node : List ℕ → ℕ → Node
-scope_node members q = record { name = []; kind = Scope; scheme = Plain; group = None; awaits = []; members = members; puts = q ∷ []; body = []; checks = [] }
+scope_node members q = record { name = []; kind = Scope; scheme = Plain; group = None; awaits = []; members = members; puts = q ∷ []; body = []; checks = []; lets = [] }
 
 abbrev fault : ℕ → ℕ → ℕ → ℕ → ℕ → Strike
 fault node attempt local word mask = record { node = node; attempt = attempt; local = local; word = word; mask = mask }
@@ -207,3 +215,105 @@ references_of_x = refl
 
 references_of_scope : references scope_plan 4 (own_promise 3) ≡ 2
 references_of_scope = refl
+
+-- A sparse product with a task that is corrected by its checksums. The matrix has the rows 2 0 and 1 3, so its products with 5 7 are 10 26.
+-- The promises are x and y. The nodes are init and mul.
+abbrev cell : ℕ → ℕ → Cell
+cell col value = record { col = col; value = value }
+
+abbrev small_matrix : MatrixData
+small_matrix = record { cols = 2; rows = (cell 0 2 ∷ []) ∷ (cell 0 1 ∷ cell 1 3 ∷ []) ∷ [] }
+
+abbrev check_on : ℕ → Spec → KeptCheck
+check_on promise spec = record { promise = promise; spec = spec; user = None }
+
+abbrev product_plan : List KeptCheck → PlanData
+product_plan checks = record (plan_of (promise 2 (Some 0) ∷ promise 2 (Some 1) ∷ [])
+    (task Plain None [] (0 ∷ []) (Lit (5 ∷ 7 ∷ []) ∷ Put 0 0 None ∷ []) []
+    ∷ task Abft None (0 ∷ []) (1 ∷ []) (ProductStep 0 0 ∷ Put 1 1 None ∷ []) (check_on 1 (Product 0 0) ∷ checks) ∷ [])) { matrices = small_matrix ∷ [] }
+
+-- the second word of the product is altered by 1: it is restored
+abbrev in_product : List Strike
+in_product = fault 1 0 1 1 1 ∷ []
+
+product_trials : trials (product_plan []) in_product ≡ (trial.Accepted ∷ []) ∷ (trial.Corrected 1 ∷ []) ∷ []
+unfolding results result_of_node first_failing spec_passes buffer_of row_product entry plain_difference weighted_difference restored
+product_trials = refl
+
+product_verdicts : verdicts (product_plan []) in_product ≡ Accepted 0 ∷ Corrected 1 ∷ []
+unfolding results result_of_node first_failing spec_passes buffer_of row_product entry plain_difference weighted_difference restored
+product_verdicts = refl
+
+product_value_corrected : value_in (product_plan []) (all_results (product_plan []) in_product) 1 ≡ Some (10 ∷ 26 ∷ [])
+unfolding results result_of_node first_failing spec_passes buffer_of row_product entry plain_difference weighted_difference restored
+product_value_corrected = refl
+
+-- two altered words: their differences, 0 and -1, name no word, and the task fails
+product_failed : trials (product_plan []) (fault 1 0 1 0 1 ∷ fault 1 0 1 1 3 ∷ []) ≡ (trial.Accepted ∷ []) ∷ (trial.Refused 0 ∷ []) ∷ []
+unfolding results result_of_node first_failing spec_passes buffer_of row_product entry plain_difference weighted_difference restored
+product_failed = refl
+
+-- without faults another check fails, the check of the product passes, and no word is corrected
+product_bounded : trials (product_plan (check_on 1 (Range 0 20) ∷ [])) [] ≡ (trial.Accepted ∷ []) ∷ (trial.Refused 1 ∷ []) ∷ []
+unfolding results result_of_node first_failing spec_passes buffer_of row_product entry plain_difference weighted_difference restored
+product_bounded = refl
+
+-- the corrected buffer is checked again: it is within 26, and not within 20
+product_within : trials (product_plan (check_on 1 (Range 0 26) ∷ [])) in_product ≡ (trial.Accepted ∷ []) ∷ (trial.Corrected 1 ∷ []) ∷ []
+unfolding results result_of_node first_failing spec_passes buffer_of row_product entry plain_difference weighted_difference restored
+product_within = refl
+
+product_beyond : trials (product_plan (check_on 1 (Range 0 20) ∷ [])) in_product ≡ (trial.Accepted ∷ []) ∷ (trial.Refused 0 ∷ []) ∷ []
+unfolding results result_of_node first_failing spec_passes buffer_of row_product entry plain_difference weighted_difference restored
+product_beyond = refl
+
+-- Two faults of one attempt that cancel in the checked sum: the altered words are accepted, and the task is not within its budget.
+abbrev cancelling : List Strike
+cancelling = fault 0 0 0 0 2 ∷ fault 0 0 0 1 2 ∷ []
+
+cancelling_value : value_in replayed_plan (all_results replayed_plan cancelling) 0 ≡ Some (8 ∷ 22 ∷ [])
+unfolding results result_of_node replayed first_failing spec_passes buffer_of
+cancelling_value = refl
+
+-- the first word that is put to the promise 0
+abbrev first_word : BufferData → ℕ
+first_word b = slice_index (unwrap_or (words_put 0 b.puts) []) 0
+
+abbrev replayed_task : Node
+replayed_task = task (Replay 3) None [] (0 ∷ []) (Lit (10 ∷ 20 ∷ []) ∷ Put 0 0 None ∷ []) ((record { promise = 0; spec = Total 30; user = None }) ∷ [])
+
+after_first : (k : ℕ) → names_attempt cancelling 0 k ≡ false → 0 < k
+after_first zero unnamed = absurd (false≢true (sym unnamed))
+after_first (suc k) unnamed = omega arith
+
+cancelling_differs : attempt_of replayed_plan cancelling 0 replayed_task (fault_free_inputs replayed_plan 0 replayed_task) 0 ≡ fault_free_buffer replayed_plan 0 replayed_task → ⊥
+unfolding buffer_of results result_of_node
+cancelling_differs same = false≢true (ap (λ b. nat_eq (first_word b) 10) same)
+
+cancelling_replays : ReplaysWithin replayed_plan cancelling 0 replayed_task 3 → ⊥
+unfolding buffer_of results result_of_node first_failing spec_passes
+cancelling_replays within = false≢true (within.refused 0 (after_first within.first within.unnamed) cancelling_differs)
+
+cancelling_beyond : IsWithinBudget replayed_plan cancelling 0 → ⊥
+unfolding results result_of_node replayed first_failing spec_passes buffer_of
+cancelling_beyond within = elim (within replayed_task refl) [
+  | inl skipped ↦ false≢true skipped
+  | inr (inl none) ↦ false≢true (sym none)
+  | inr (inr replays) ↦ cancelling_replays replays
+]
+
+-- A faulted plain task that is skipped without faults is within its budget.
+abbrev react : Node
+react = task Plain None (0 ∷ []) (1 ∷ []) (Sum 0 ∷ Put 1 1 None ∷ []) []
+
+abbrev skipping_plan : PlanData
+skipping_plan = plan_of (promise 1 (Some 0) ∷ promise 1 (Some 1) ∷ []) (task Plain None [] (0 ∷ []) (Lit (0 ∷ []) ∷ Put 0 0 (Some 0) ∷ []) [] ∷ react ∷ [])
+
+abbrev in_react : List Strike
+in_react = fault 1 0 1 0 1 ∷ []
+
+skipped_within : IsWithinBudget skipping_plan in_react 1
+unfolding results result_of_node buffer_of
+skipped_within node is =
+    let keeps : KeepsBudget skipping_plan in_react 1 react Task = inl refl in
+    subst (λ (n : Node). KeepsBudget skipping_plan in_react 1 n n.kind) (same_Some react node is) keeps

@@ -5,20 +5,24 @@ use Rattle.std.proofs.lemmas.List.Sums.{sum_by-cons}
 use Rattle.std.proofs.lemmas.List.FromFn.{length-map-range_with_len}
 use Rattle.std.proofs.lemmas.Bool.{cases_Bool, eqb-true, cond-true, cond-false}
 use Rattle.std.proofs.lemmas.Option.{none-some, same_Some}
-use Rattle.std.specs.List.{AllByRecursion, find, concat, slice_range}
+use Rattle.std.specs.List.{slice_get, AllByRecursion, find, concat, slice_range}
 use Rattle.std.specs.Prelude.{drop}
 use Rattle.std.specs.Option.{option_map}
 use Rattle.rh_words.specs.Kernels.{word_by_word, gen_word}
 use Rattle.rh_words.specs.Modular.{add_word, sub_word, mul_word, asr_word}
+use Rattle.rh_stencil.specs.Steps.{line_word, last_word, first_word}
+use Rattle.rh_stencil.specs.Grids.{grid_word}
 use Rattle.rh_injector.specs.declared.faults.Strike.{Strike}
 use Rattle.rh_rules.specs.declared.body.Step.{Step}
 use Rattle.rh_rules.specs.declared.body.Step.TheVariants.{Lit, Gen, Add, Sub, Mul, Scale, Shift, Cut, Join, Sum, Count, Stencil1, Stencil2, Product, Put, DropAwait}
-use Rattle.rh_rules.specs.Bodies.{IsSoundStep, AreAlike, let_len, with_len, lens_after, AreSoundSteps}
+use Rattle.rh_sparse.specs.Matrix.{MatrixData}
+use Rattle.rh_sparse.specs.Product.{row_product}
+use Rattle.rh_rules.specs.Bodies.{rows_at, shapes_of, IsSoundStep, AreAlike, let_len, with_len, lens_after, AreSoundSteps}
 use Rattle.rh_plan.specs.declared.made_put.MadePut.{MadePut}
 use Rattle.rh_rules.specs.Lawful.{promise_lens}
-use Rattle.rh_plan.specs.Plans.{PlanData}
+use Rattle.rh_plan.specs.Plans.{PlanData, shapes_in}
 use Rattle.rh_plan.specs.Faulted.{faulted, faulted_from}
-use Rattle.rh_plan.specs.Buffers.{local_at, let_value, with_local, locals_after, locals_from, copies_from, is_made, puts_at, puts_of, buffer_of, words_put}
+use Rattle.rh_plan.specs.Buffers.{local_at, product_if_held, let_value, with_local, locals_after, locals_from, copies_from, is_made, puts_at, puts_of, buffer_of, words_put, PutsFit}
 
 length-faulted_from : (faults : List Strike) (local at : ℕ) (words : List ℕ) → length (faulted_from faults local at words) ≡ length words
 length-faulted_from faults local at [] = refl
@@ -64,8 +68,14 @@ len_of_cut from len words n is fits =
     let rest = length-drop from words in
     omega arith
 
+-- a product has a word for each row of its matrix
+len_of_product : (matrices : List MatrixData) (matrix : ℕ) (words : List ℕ) → length (product_if_held (slice_get matrices matrix) words) ≡ rows_at (shapes_of matrices) matrix
+len_of_product [] matrix words = refl
+len_of_product (a ∷ matrices) zero words = length-map a.rows (row_product words)
+len_of_product (a ∷ matrices) (suc matrix) words = len_of_product matrices matrix words
+
 -- the length of a `let` result
-pub len_of_let : (plan : PlanData) (ps : List ℕ) (locals : List (List ℕ)) (step : Step) → IsSoundStep ps (map length locals) step → option_map length (let_value plan locals step) ≡ let_len (map length locals) step
+pub len_of_let : (plan : PlanData) (ps : List ℕ) (locals : List (List ℕ)) (step : Step) → IsSoundStep (shapes_in plan) ps (map length locals) step → option_map length (let_value plan locals step) ≡ let_len (shapes_in plan) (map length locals) step
 len_of_let plan ps locals (Lit words) sound = refl
 len_of_let plan ps locals (Gen n start limit) sound = ap Some (length-map-range_with_len (gen_word start limit) 0 n)
 len_of_let plan ps locals (Add a b) sound = ap Some (len_of_both add_word locals a b sound)
@@ -77,9 +87,12 @@ len_of_let plan ps locals (Cut a from len) sound = ap Some (len_of_cut from len 
 len_of_let plan ps locals (Join parts) sound = ap Some (len_of_join locals parts sound.0)
 len_of_let plan ps locals (Sum a) sound = refl
 len_of_let plan ps locals (Count a) sound = refl
-len_of_let plan ps locals (Stencil1 l m r k s) sound = absurd sound
-len_of_let plan ps locals (Stencil2 north south west east m cols k s) sound = absurd sound
-len_of_let plan ps locals (Product matrix v) sound = absurd sound
+len_of_let plan ps locals (Stencil1 l m r k s) sound =
+    ap Some (length-map-range_with_len (line_word (last_word (local_at locals l)) (local_at locals m) (first_word (local_at locals r)) k s) 0 (length (local_at locals m)) ∙ length-local_at locals m sound.1.0)
+len_of_let plan ps locals (Stencil2 north south west east m cols k s) sound =
+    let at = local_at locals in
+    ap Some (length-map-range_with_len (grid_word (at north) (at south) (at west) (at east) (at m) cols k s) 0 (length (at m)) ∙ length-local_at locals m sound.0.there.4)
+len_of_let plan ps locals (Product matrix v) sound = ap Some (len_of_product plan.matrices matrix (local_at locals v))
 len_of_let plan ps locals (Put promise local when) sound = refl
 len_of_let plan ps locals (DropAwait promise) sound = refl
 
@@ -90,7 +103,7 @@ lens_with faults locals (Some words) =
     ∙ ap (λ (n : ℕ). map length locals ++ n ∷ []) (length-faulted_from faults (length locals) 0 words)
 
 -- the lengths of the locals after a step
-pub lens_step : (plan : PlanData) (ps : List ℕ) (faults : List Strike) (locals : List (List ℕ)) (step : Step) → IsSoundStep ps (map length locals) step → map length (locals_after plan faults locals step) ≡ lens_after (map length locals) step
+pub lens_step : (plan : PlanData) (ps : List ℕ) (faults : List Strike) (locals : List (List ℕ)) (step : Step) → IsSoundStep (shapes_in plan) ps (map length locals) step → map length (locals_after plan faults locals step) ≡ lens_after (shapes_in plan) (map length locals) step
 lens_step plan ps faults locals step sound = lens_with faults locals (let_value plan locals step) ∙ ap (with_len (map length locals)) (len_of_let plan ps locals step sound)
 
 -- more locals than these, behind them
@@ -115,10 +128,6 @@ local_stays plan faults locals steps i there =
     let long = length-map locals (λ (l : List ℕ). length l) in
     ap (λ (l : List (List ℕ)). local_at l i) all ∙ get_or_append_left locals more [] i (omega arith)
 
--- each put has as many words as its promise
-abbrev pub PutsFit : PlanData → List MadePut → Type 0
-PutsFit plan puts = AllByRecursion (λ p. length p.words ≡ slice_index (promise_lens plan.promises) p.promise) puts
-
 fits_append : (plan : PlanData) (ps qs : List MadePut) → PutsFit plan ps → PutsFit plan qs → PutsFit plan (ps ++ qs)
 fits_append plan [] qs a b = b
 fits_append plan (p ∷ ps) qs a b = (a.0, fits_append plan ps qs a.1 b)
@@ -127,13 +136,13 @@ fits_if : (plan : PlanData) (made : Bool) (ps : List MadePut) → PutsFit plan p
 fits_if plan true ps fit = fit
 fits_if plan false ps fit = tt
 
-put_fits : (plan : PlanData) (faults : List Strike) (locals : List (List ℕ)) (steps : List Step) (promise local : ℕ) (when : Option ℕ) → IsSoundStep (promise_lens plan.promises) (map length locals) (Put promise local when) → PutsFit plan (puts_at (locals_from plan faults locals steps) (Put promise local when))
+put_fits : (plan : PlanData) (faults : List Strike) (locals : List (List ℕ)) (steps : List Step) (promise local : ℕ) (when : Option ℕ) → IsSoundStep (shapes_in plan) (promise_lens plan.promises) (map length locals) (Put promise local when) → PutsFit plan (puts_at (locals_from plan faults locals steps) (Put promise local when))
 put_fits plan faults locals steps promise local when sound =
     let all = locals_from plan faults locals steps in
     fits_if plan (is_made all when) ((record { promise = promise; words = local_at all local }) ∷ [])
     (ap length (local_stays plan faults locals steps local sound.1) ∙ length-local_at locals local sound.1 ∙ sound.2, tt)
 
-step_fits : (plan : PlanData) (faults : List Strike) (locals : List (List ℕ)) (steps : List Step) (step : Step) → IsSoundStep (promise_lens plan.promises) (map length locals) step → PutsFit plan (puts_at (locals_from plan faults locals steps) step)
+step_fits : (plan : PlanData) (faults : List Strike) (locals : List (List ℕ)) (steps : List Step) (step : Step) → IsSoundStep (shapes_in plan) (promise_lens plan.promises) (map length locals) step → PutsFit plan (puts_at (locals_from plan faults locals steps) step)
 step_fits plan faults locals steps (Put promise local when) sound = put_fits plan faults locals steps promise local when sound
 step_fits plan faults locals steps (Lit words) sound = tt
 step_fits plan faults locals steps (Gen n start limit) sound = tt
@@ -151,18 +160,18 @@ step_fits plan faults locals steps (Stencil2 north south west east m cols k s) s
 step_fits plan faults locals steps (Product matrix v) sound = tt
 step_fits plan faults locals steps (DropAwait promise) sound = tt
 
-puts_fit : (plan : PlanData) (faults : List Strike) (locals : List (List ℕ)) (steps : List Step) → AreSoundSteps (promise_lens plan.promises) (map length locals) steps → PutsFit plan (puts_of (locals_from plan faults locals steps) steps)
+puts_fit : (plan : PlanData) (faults : List Strike) (locals : List (List ℕ)) (steps : List Step) → AreSoundSteps (shapes_in plan) (promise_lens plan.promises) (map length locals) steps → PutsFit plan (puts_of (locals_from plan faults locals steps) steps)
 puts_fit plan faults locals [] sound = tt
 puts_fit plan faults locals (step ∷ steps) sound =
     fits_append plan (puts_at (locals_from plan faults locals (step ∷ steps)) step) (puts_of (locals_from plan faults locals (step ∷ steps)) steps)
     (step_fits plan faults locals (step ∷ steps) step sound.0)
-    (puts_fit plan faults (locals_after plan faults locals step) steps (subst (λ (l : List ℕ). AreSoundSteps (promise_lens plan.promises) l steps) (sym (lens_step plan (promise_lens plan.promises) faults locals step sound.0)) sound.1))
+    (puts_fit plan faults (locals_after plan faults locals step) steps (subst (λ (l : List ℕ). AreSoundSteps (shapes_in plan) (promise_lens plan.promises) l steps) (sym (lens_step plan (promise_lens plan.promises) faults locals step sound.0)) sound.1))
 
 -- what an attempt of a sound body puts fits, whatever faults it has
-pub buffer_fits : (plan : PlanData) (faults : List Strike) (inputs : List (List ℕ)) (steps : List Step) → AreSoundSteps (promise_lens plan.promises) (map length inputs) steps → PutsFit plan (buffer_of plan faults inputs steps).puts
+pub buffer_fits : (plan : PlanData) (faults : List Strike) (inputs : List (List ℕ)) (steps : List Step) → AreSoundSteps (shapes_in plan) (promise_lens plan.promises) (map length inputs) steps → PutsFit plan (buffer_of plan faults inputs steps).puts
 unfolding buffer_of
 buffer_fits plan faults inputs steps sound =
-    puts_fit plan faults (copies_from faults 0 inputs) steps (subst (λ (l : List ℕ). AreSoundSteps (promise_lens plan.promises) l steps) (sym (lens_copies faults 0 inputs)) sound)
+    puts_fit plan faults (copies_from faults 0 inputs) steps (subst (λ (l : List ℕ). AreSoundSteps (shapes_in plan) (promise_lens plan.promises) l steps) (sym (lens_copies faults 0 inputs)) sound)
 
 pub words_fit : (plan : PlanData) (puts : List MadePut) (q : ℕ) (w : List ℕ) → PutsFit plan puts → words_put q puts ≡ Some w → length w ≡ slice_index (promise_lens plan.promises) q
 words_fit plan [] q w fit is = absurd (none-some w is)

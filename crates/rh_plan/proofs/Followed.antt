@@ -1,5 +1,5 @@
 -- Every accepted buffer follows the body of its task.
-use Rattle.std.proofs.Common.{◌≡◌, ℕ, ◌≤◌, ◌==◌, List, [], ◌∷◌, Bool, true, false, cond, Option, Some, None, map, refl, arith, ap, slice_index_or}
+use Rattle.std.proofs.Common.{◌≡◌, ℕ, ◌≤◌, ◌==◌, List, [], ◌∷◌, Bool, true, false, cond, Option, Some, None, map, refl, arith, ap, sym, subst, slice_index_or}
 use Rattle.std.proofs.lemmas.Option.{none-some}
 use Rattle.std.proofs.lemmas.List.{map-append}
 use Rattle.std.proofs.lemmas.List.Sums.{sum_by-append}
@@ -18,9 +18,12 @@ use Rattle.rh_injector.specs.Faults.{faults_in}
 use Rattle.rh_plan.specs.Buffers.{BufferData, buffer_of, puts_at, puts_of, is_made, locals_of}
 use Rattle.rh_plan.specs.Checking.{first_failing}
 use Rattle.rh_plan.specs.Judging.{attempts_of}
-use Rattle.rh_plan.specs.Attempts.{attempt_of, attempts_made, correction}
+use Rattle.rh_plan.specs.Correcting.{correction}
+use Rattle.rh_plan.specs.Attempts.{attempt_of, attempts_made}
 use Rattle.rh_plan.specs.Results.{results, result_of_node, result_by_kind, task_result, group_result, cause_in, inputs_in}
 use Rattle.rh_plan.specs.Followed.{often, FollowsSteps, AcceptedBuffersFollowBodies}
+use Rattle.rh_plan.proofs.Replaced.{same_promises}
+use Rattle.rh_plan.proofs.Corrected.{correction_replaces}
 use Rattle.rh_plan.proofs.Made.{accepted_holds}
 
 made_once : (q p : ℕ) (words : List ℕ) (b : Bool) → often q (map (λ (m : MadePut). m.promise) (cond b ((record { promise = p; words = words }) ∷ []) [])) ≤ often q (p ∷ [])
@@ -63,11 +66,21 @@ attempts_follow : (plan : PlanData) (faults : List Strike) (v : ℕ) (node : Nod
 attempts_follow plan faults v node inputs [] = tt
 attempts_follow plan faults v node inputs (k ∷ ks) = (buffer_follows plan (faults_in faults v k) inputs node.body, attempts_follow plan faults v node inputs ks)
 
+-- a corrected buffer follows the steps where the one that was made does
+correction_follows : (plan : PlanData) (node : Node) (inputs : List (List ℕ)) (x : BufferData) (c : ℕ × BufferData) → FollowsSteps node.body x → correction plan node inputs x ≡ Some c → FollowsSteps node.body c.1
+correction_follows plan node inputs x c follows found =
+    let replaced = correction_replaces plan node inputs x c found in
+    let promises = same_promises replaced.promise replaced.after x.puts in
+    subst (FollowsSteps node.body) (sym replaced.is) (record {
+      drops = follows.drops;
+      puts = λ q. subst (λ (l : List ℕ). often q l ≤ often q (promises_put node.body)) (sym promises) (follows.puts q);
+    })
+
 task_follows : (plan : PlanData) (faults : List Strike) (v : ℕ) (node : Node) (b : BufferData) (c : Option Cause) → (task_result plan faults (results plan faults v) v node c).accepted ≡ Some b → FollowsSteps node.body b
 task_follows plan faults v node b None is =
     let inputs = inputs_in plan (results plan faults v) node.awaits in
     accepted_holds (FollowsSteps node.body) (first_failing plan inputs node.checks) (correction plan node inputs) (attempts_made plan faults v node inputs) node.scheme b
-    (attempts_follow plan faults v node inputs (range_with_len 0 (attempts_of node.scheme))) (λ x c here found. absurd (none-some c found)) is
+    (attempts_follow plan faults v node inputs (range_with_len 0 (attempts_of node.scheme))) (λ x c here found. correction_follows plan node inputs x c here found) is
 task_follows plan faults v node b (Some c) is = absurd (none-some b is)
 
 group_follows : (node : Node) (b : BufferData) (c : Option Cause) → (group_result c).accepted ≡ Some b → FollowsSteps node.body b

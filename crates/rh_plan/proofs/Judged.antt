@@ -1,5 +1,5 @@
 -- A task that is judged within its budget ends as without faults.
-use Rattle.std.proofs.Common.{◌≡◌, ℕ, ◌+◌, ◌*◌, ◌<◌, ◌≤◌, List, [], ◌∷◌, Bool, true, false, Option, Some, None, length, refl, arith, ap, sym, ◌∙◌, subst, inl, inr, ◌⊎◌}
+use Rattle.std.proofs.Common.{◌≡◌, ℕ, ◌+◌, ◌*◌, ◌<◌, ◌≤◌, List, [], ◌∷◌, Bool, true, false, Option, Some, None, length, map, refl, arith, ap, sym, ◌∙◌, subst, inl, inr, ◌⊎◌}
 use Rattle.std.proofs.lemmas.Option.{same_Some}
 use Rattle.std.proofs.lemmas.Bool.{false≢true}
 use Rattle.std.specs.List.{filter, slice_get, position, range_with_len}
@@ -16,11 +16,13 @@ use Rattle.rh_injector.specs.Faults.{names_task, names_attempt}
 use Rattle.rh_plan.specs.Buffers.{BufferData, buffer_of}
 use Rattle.rh_plan.specs.Checking.{first_failing}
 use Rattle.rh_plan.specs.Judging.{attempts_of, tolerated, majority, deciding, replica_accepted, replicated_by, replicated_after, replicated, replayed_after, replayed, corrected_to, checked_once, corrected, judged_by}
-use Rattle.rh_plan.specs.Attempts.{attempt_of, attempts_made, correction, judged}
+use Rattle.rh_plan.specs.Correcting.{correction}
+use Rattle.rh_plan.specs.Attempts.{attempt_of, attempts_made, judged}
 use Rattle.rh_plan.specs.Results.{is_skipped}
-use Rattle.rh_plan.specs.Budgets.{fault_free_inputs, fault_free_buffer, attempts_named, ToleratesFaults, ReplaysWithin}
+use Rattle.rh_plan.specs.Budgets.{fault_free_inputs, fault_free_buffer, attempts_named, ToleratesFaults, ReplaysWithin, CorrectsWithin}
 use Rattle.rh_plan.proofs.Attempts.{length-attempts_made, attempt_at, unnamed_attempt, attempts_unnamed, differing_few}
-use Rattle.rh_plan.proofs.Accepting.{Accepts, replicated_accepts, replayed_accepts}
+use Rattle.rh_plan.proofs.Accepting.{Accepts, replicated_accepts, replayed_accepts, corrected_accepts}
+use Rattle.rh_plan.proofs.Corrected.{corrected_back}
 use Rattle.rh_plan.proofs.Alike.{AreAlike, alike_same, accepted_alike}
 
 -- the task was accepted, corrected or failed
@@ -120,12 +122,35 @@ replay_accepts-fault_free plan v limit node scheme some passes =
     replayed_accepts (first_failing plan inputs node.checks) (attempts_made plan [] v node inputs) (fault_free_buffer plan v node) 0 passes (attempt_at plan [] v node inputs 0 below)
     (λ k x before is other. absurd (omega arith))
 
+-- a task with correction makes one attempt
+made_once : (plan : PlanData) (faults : List Strike) (v : ℕ) (node : Node) (inputs : List (List ℕ)) → node.scheme ≡ Abft → attempts_made plan faults v node inputs ≡ attempt_of plan faults v node inputs 0 ∷ []
+made_once plan faults v node inputs scheme = ap (λ (s : Scheme). map (attempt_of plan faults v node inputs) (range_with_len 0 (attempts_of s))) scheme
+
+-- a task with correction that is within its budget accepts the fault-free buffer
+correction_accepts : (plan : PlanData) (faults : List Strike) (v : ℕ) (node : Node) → node.scheme ≡ Abft → CorrectsWithin plan faults v node → Accepts (corrected (first_failing plan (fault_free_inputs plan v node) node.checks) (correction plan node (fault_free_inputs plan v node)) (attempts_made plan faults v node (fault_free_inputs plan v node))) (fault_free_buffer plan v node)
+correction_accepts plan faults v node scheme within =
+    let inputs = fault_free_inputs plan v node in
+    let clean = fault_free_buffer plan v node in
+    let made = attempt_of plan faults v node inputs 0 in
+    let failing = first_failing plan inputs node.checks in
+    let near : (made ≡ clean) ⊎ ((is_some (failing made) ≡ true) × ((i : ℕ) × (correction plan node inputs made ≡ Some (i, clean)))) = elim within.near [
+      | inl same ↦ inl same
+      | inr differs ↦ inr (corrected_back plan node inputs clean made within.check within.words within.passes within.checked within.put differs)
+    ] in
+    subst (λ (l : List BufferData). Accepts (corrected failing (correction plan node inputs) l) clean) (sym (made_once plan faults v node inputs scheme))
+    (corrected_accepts failing (correction plan node inputs) made clean within.passes near)
+
 -- what a scheme tolerates changes neither the ending nor the values
 tolerated_alike : (plan : PlanData) (faults : List Strike) (v : ℕ) (node : Node) (s : Scheme) → node.scheme ≡ s → ToleratesFaults plan faults v node s
     → AreAlike (judged_by (first_failing plan (fault_free_inputs plan v node) node.checks) (correction plan node (fault_free_inputs plan v node)) (attempts_made plan faults v node (fault_free_inputs plan v node)) s)
     (judged_by (first_failing plan (fault_free_inputs plan v node) node.checks) (correction plan node (fault_free_inputs plan v node)) (attempts_made plan [] v node (fault_free_inputs plan v node)) s)
 tolerated_alike plan faults v node Plain is tolerates = absurd tolerates
-tolerated_alike plan faults v node Abft is tolerates = absurd tolerates
+tolerated_alike plan faults v node Abft is tolerates =
+    let inputs = fault_free_inputs plan v node in
+    let scheme = corrected (first_failing plan inputs node.checks) (correction plan node inputs) in
+    accepted_alike (scheme (attempts_made plan faults v node inputs)) (scheme (attempts_made plan [] v node inputs)) (fault_free_buffer plan v node)
+    (correction_accepts plan faults v node is tolerates)
+    (correction_accepts plan [] v node is (record { passes = tolerates.passes; check = tolerates.check; checked = tolerates.checked; words = tolerates.words; put = tolerates.put; near = inl refl }))
 tolerated_alike plan faults v node Replicate is tolerates =
     let inputs = fault_free_inputs plan v node in
     let none = none_named v (range_with_len 0 (2 * tolerated + 1)) in

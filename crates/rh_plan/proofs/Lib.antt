@@ -8,6 +8,8 @@ pub mod Accepting
 pub mod Rows
 pub mod Dependencies
 pub mod Alike
+pub mod Replaced
+pub mod Corrected
 pub mod Judged
 pub mod Sources
 pub mod Scopes
@@ -20,4 +22,13 @@ pub mod Sums
 pub mod Followed
 pub mod Tried
 pub mod PlannedTexts
+pub mod SaidParts
 pub mod SaidPlans
+pub mod FaultPlaces
+pub mod LocalLens
+pub mod TaskTables
+pub mod FaultTasks
+pub mod ResolvedFaults
+pub mod NamedPlaces
+pub mod OneResolution
+pub mod KeptUsers

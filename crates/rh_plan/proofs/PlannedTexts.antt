@@ -1,7 +1,8 @@
 -- A text has one plan or a first break, never both.
-use Rattle.std.proofs.Common.{◌≡◌, ◌⊎◌, ℕ, List, refl, sym, ap, ◌∙◌, inl, inr}
+use Rattle.std.proofs.Common.{◌≡◌, ◌⊎◌, ℕ, List, [], refl, sym, ap, ◌∙◌, inl, inr}
 use Rattle.rh_words.specs.declared.reason.Reason.{Reason}
 use Rattle.rh_task_text.specs.Program.{ProgramText, upward}
+use Rattle.rh_check.specs.Users.{HandedChecks}
 use Rattle.rh_rules.specs.declared.node.Node.{Node}
 use Rattle.rh_rules.specs.declared.node.PlannedPromise.{PlannedPromise}
 use Rattle.rh_rules.specs.Above.{nodes_above, promises_above}
@@ -11,24 +12,24 @@ use Rattle.rh_plan.specs.Plans.{PlanData, plan_data, edges_from}
 use Rattle.rh_plan.specs.Planned.{IsPlanOf}
 
 -- the plan of the lines of a text
-abbrev pub planned_data : ProgramText → PlanData
-planned_data text = plan_data (nodes_above look_above (upward text.items)) (promises_above (upward text.items)) (edges_from (promises_above (upward text.items)) 0 (nodes_above look_above (upward text.items)))
+abbrev pub planned_data : HandedChecks → ProgramText → PlanData
+planned_data handed text = plan_data (nodes_above (look_above handed) (upward text.items)) (promises_above (upward text.items)) (edges_from (promises_above (upward text.items)) 0 (nodes_above (look_above handed) (upward text.items))) []
 
-pub planned_or_broken : (text : ProgramText) → ((plan : PlanData) × IsPlanOf text plan) ⊎ ((line : ℕ) × (reason : Reason) × FirstBreak text line reason)
-planned_or_broken text = elim (kept_or_broken text) [
-  | inl kept ↦ inl (planned_data text, record { draft = record { kept = kept; nodes = refl; promises = refl }; whole = refl })
+pub planned_or_broken : (handed : HandedChecks) (text : ProgramText) → ((plan : PlanData) × IsPlanOf handed text plan) ⊎ ((line : ℕ) × (reason : Reason) × FirstBreak handed text line reason)
+planned_or_broken handed text = elim (kept_or_broken handed text) [
+  | inl kept ↦ inl (planned_data handed text, record { draft = record { kept = kept; nodes = refl; promises = refl }; whole = refl })
   | inr broken ↦ inr broken
 ]
 
-pub planned_unbroken : (text : ProgramText) (plan : PlanData) (line : ℕ) (reason : Reason) → IsPlanOf text plan → FirstBreak text line reason → ⊥
-planned_unbroken text plan line reason planned break = kept_unbroken text line reason planned.draft.kept break
+pub planned_unbroken : (handed : HandedChecks) (text : ProgramText) (plan : PlanData) (line : ℕ) (reason : Reason) → IsPlanOf handed text plan → FirstBreak handed text line reason → ⊥
+planned_unbroken handed text plan line reason planned break = kept_unbroken handed text line reason planned.draft.kept break
 
-planned_is : (text : ProgramText) (plan : PlanData) → IsPlanOf text plan → plan ≡ planned_data text
-planned_is text plan planned =
-    let nodes = ap (λ (ns : List Node). plan_data ns plan.promises (edges_from plan.promises 0 ns)) planned.draft.nodes in
-    let ns = nodes_above look_above (upward text.items) in
-    let promises = ap (λ (ps : List PlannedPromise). plan_data ns ps (edges_from ps 0 ns)) planned.draft.promises in
+planned_is : (handed : HandedChecks) (text : ProgramText) (plan : PlanData) → IsPlanOf handed text plan → plan ≡ planned_data handed text
+planned_is handed text plan planned =
+    let nodes = ap (λ (ns : List Node). plan_data ns plan.promises (edges_from plan.promises 0 ns) []) planned.draft.nodes in
+    let ns = nodes_above (look_above handed) (upward text.items) in
+    let promises = ap (λ (ps : List PlannedPromise). plan_data ns ps (edges_from ps 0 ns) []) planned.draft.promises in
     planned.whole ∙ nodes ∙ promises
 
-pub planned_once : (text : ProgramText) (plan other : PlanData) → IsPlanOf text plan → IsPlanOf text other → plan ≡ other
-planned_once text plan other planned again = planned_is text plan planned ∙ sym (planned_is text other again)
+pub planned_once : (handed : HandedChecks) (text : ProgramText) (plan other : PlanData) → IsPlanOf handed text plan → IsPlanOf handed text other → plan ≡ other
+planned_once handed text plan other planned again = planned_is handed text plan planned ∙ sym (planned_is handed text other again)

@@ -13,10 +13,11 @@ use Rattle.rh_rules.specs.declared.node.Scheme.TheVariants.{Plain, Replicate, Re
 use Rattle.rh_plan.specs.declared.outcome.Trial.TheVariants as trial
 use Rattle.rh_plan.specs.Buffers.{BufferData}
 use Rattle.rh_plan.specs.declared.outcome.Cause.{Cause}
-use Rattle.rh_plan.specs.Plans.{PlanData}
+use Rattle.rh_plan.specs.Plans.{PlanData, shapes_in}
 use Rattle.rh_rules.specs.Lawful.{IsLawfulKind, IsLawfulScheme}
 use Rattle.rh_plan.specs.Checking.{first_failing}
-use Rattle.rh_plan.specs.Attempts.{attempt_of, attempts_made, correction}
+use Rattle.rh_plan.specs.Correcting.{correction}
+use Rattle.rh_plan.specs.Attempts.{attempt_of, attempts_made}
 use Rattle.rh_plan.specs.Results.{results, result_of_node, result_by_kind, task_result, group_result, cause_in, inputs_in}
 use Rattle.rh_plan.specs.Tried.{FewTrials}
 use Rattle.rh_plan.specs.Judging.{attempts_of, tolerated, majority, deciding, replica_trial, replica_accepted, replicated_by, replicated_after, replicated, refused, replayed_after, replayed, corrected_to, checked_once, corrected, judged_by}
@@ -88,7 +89,7 @@ group_few : (c : Option Cause) → length (group_result c).trials ≤ 9
 group_few None = omega arith
 group_few (Some c) = omega arith
 
-kind_few : (plan : PlanData) (faults : List Strike) (v : ℕ) (node : Node) (k : Kind) → IsLawfulKind plan.promises node k → length (result_by_kind plan faults (results plan faults v) v node k).trials ≤ 9
+kind_few : (plan : PlanData) (faults : List Strike) (v : ℕ) (node : Node) (k : Kind) → IsLawfulKind (shapes_in plan) plan.promises node k → length (result_by_kind plan faults (results plan faults v) v node k).trials ≤ 9
 kind_few plan faults v node Task lawful = task_few plan faults v node (cause_in plan (results plan faults v) node) (scheme_few node node.scheme lawful.scheme)
 kind_few plan faults v node Group lawful = group_few (cause_in plan (results plan faults v) node)
 kind_few plan faults v node Scope lawful = omega arith

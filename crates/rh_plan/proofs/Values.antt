@@ -12,20 +12,23 @@ use Rattle.rh_plan.specs.declared.outcome.Cause.{Cause}
 use Rattle.rh_plan.specs.declared.outcome.Verdict.{Verdict}
 use Rattle.rh_plan.specs.declared.outcome.Verdict.TheVariants.{Accepted, Corrected, Failed, Skipped, Opened, Closed, Ended}
 use Rattle.rh_rules.specs.Lawful.{promise_lens, putter_of}
-use Rattle.rh_plan.specs.Plans.{PlanData}
+use Rattle.rh_plan.specs.Plans.{PlanData, shapes_in}
 use Rattle.rh_injector.specs.Faults.{faults_in}
-use Rattle.rh_plan.specs.Buffers.{BufferData, words_put}
+use Rattle.rh_plan.specs.Buffers.{BufferData, words_put, PutsFit}
 use Rattle.rh_rules.specs.Bodies.{AreSoundSteps, lens_at}
 use Rattle.rh_rules.specs.Lawful.{IsLawfulKind, IsAmong}
 use Rattle.rh_plan.specs.Lawful.{IsLawfulPlan}
 use Rattle.rh_plan.specs.Checking.{first_failing}
 use Rattle.rh_plan.specs.Judging.{attempts_of}
-use Rattle.rh_plan.specs.Attempts.{attempt_of, attempts_made, correction, judged}
+use Rattle.rh_plan.specs.Correcting.{correction}
+use Rattle.rh_plan.specs.Attempts.{attempt_of, attempts_made, judged}
 use Rattle.rh_plan.specs.Results.{results, result_of_node, result_by_kind, task_result, group_result, value_put, value_by, value_in, inputs_in, present_in, first_absent, blamed, group_opened, cause_in}
 use Rattle.rh_plan.specs.Values.{IsReady, UnskippedTasksAreReady}
 use Rattle.rh_plan.proofs.Rows.{value_there}
 use Rattle.rh_plan.proofs.Sources.{row, node_there}
-use Rattle.rh_plan.proofs.Fitting.{PutsFit, buffer_fits, words_fit}
+use Rattle.rh_plan.proofs.Fitting.{buffer_fits, words_fit}
+use Rattle.rh_plan.proofs.Replaced.{lengths_stay}
+use Rattle.rh_plan.proofs.Corrected.{correction_replaces}
 use Rattle.rh_plan.proofs.Made.{accepted_holds}
 use Rattle.rh_plan.proofs.Judged.{judged_not_ended}
 
@@ -87,16 +90,22 @@ ready : (plan : PlanData) → IsLawfulPlan plan → (faults : List Strike) (v : 
 ready plan lawful faults v node is kind fit none =
     let within = slice_get_within plan.nodes v node is in
     let one = lawful.parts.nodes v node is in
-    let task = subst (IsLawfulKind plan.promises node) kind one.kind in
+    let task = subst (IsLawfulKind (shapes_in plan) plan.promises node) kind one.kind in
     let absent = none_blamed node.group (group_opened (results plan faults v) node.group) node.awaits (present_in plan (results plan faults v) node.awaits) none in
     let there = none_absent (λ q. is_some (value_in plan (results plan faults v) q)) node.awaits absent in
     let present = values_present plan faults v (omega arith) fit node.awaits one.awaited there in
     let lens = inputs_lens plan faults v node.awaits present in
-    record { present = present; lens = lens; sound = subst (λ (l : List ℕ). AreSoundSteps (promise_lens plan.promises) l node.body) (sym lens) task.sound }
+    record { present = present; lens = lens; sound = subst (λ (l : List ℕ). AreSoundSteps (shapes_in plan) (promise_lens plan.promises) l node.body) (sym lens) task.sound }
 
-attempts_fit : (plan : PlanData) (faults : List Strike) (v : ℕ) (node : Node) (inputs : List (List ℕ)) → AreSoundSteps (promise_lens plan.promises) (map length inputs) node.body → (ks : List ℕ) → AllByRecursion (λ (b : BufferData). PutsFit plan b.puts) (map (attempt_of plan faults v node inputs) ks)
+attempts_fit : (plan : PlanData) (faults : List Strike) (v : ℕ) (node : Node) (inputs : List (List ℕ)) → AreSoundSteps (shapes_in plan) (promise_lens plan.promises) (map length inputs) node.body → (ks : List ℕ) → AllByRecursion (λ (b : BufferData). PutsFit plan b.puts) (map (attempt_of plan faults v node inputs) ks)
 attempts_fit plan faults v node inputs sound [] = tt
 attempts_fit plan faults v node inputs sound (k ∷ ks) = (buffer_fits plan (faults_in faults v k) inputs node.body sound, attempts_fit plan faults v node inputs sound ks)
+
+-- a corrected buffer fits where the one that was made does
+correction_fits : (plan : PlanData) (node : Node) (inputs : List (List ℕ)) (x : BufferData) (c : ℕ × BufferData) → PutsFit plan x.puts → correction plan node inputs x ≡ Some c → PutsFit plan c.1.puts
+correction_fits plan node inputs x c fit found =
+    let replaced = correction_replaces plan node inputs x c found in
+    subst (λ (b : BufferData). PutsFit plan b.puts) (sym replaced.is) (lengths_stay (promise_lens plan.promises) replaced.promise replaced.before replaced.after x.puts replaced.put replaced.long fit)
 
 accepted_fits : (plan : PlanData) (q : ℕ) (w : List ℕ) (o : Option BufferData) → ((b : BufferData) → o ≡ Some b → PutsFit plan b.puts) → option_and_then (λ b. words_put q b.puts) o ≡ Some w → length w ≡ slice_index (promise_lens plan.promises) q
 accepted_fits plan q w None fit is = absurd (none-some w is)
@@ -121,7 +130,7 @@ task_fits plan lawful faults v node is kind fit q w None cause value =
     let all = attempts_fit plan faults v node inputs (ready plan lawful faults v node is kind fit cause).sound (range_with_len 0 (attempts_of node.scheme)) in
     put_fits plan q w (judged plan faults v node inputs).accepted (judged plan faults v node inputs).verdict
     (λ a f s ended. absurd (judged_not_ended failing (correction plan node inputs) made node.scheme a f s ended))
-    (λ b at. accepted_holds (λ x. PutsFit plan x.puts) failing (correction plan node inputs) made node.scheme b all (λ x c here found. absurd (none-some c found)) at)
+    (λ b at. accepted_holds (λ x. PutsFit plan x.puts) failing (correction plan node inputs) made node.scheme b all (λ x c here found. correction_fits plan node inputs x c here found) at)
     value
 
 group_fits : (plan : PlanData) (q : ℕ) (w : List ℕ) (c : Option Cause) → value_by q (group_result c) ≡ Some w → length w ≡ slice_index (promise_lens plan.promises) q
@@ -137,7 +146,7 @@ among_one p q among = elim (or_cases (p == q) false among) [
 
 scope_three : (plan : PlanData) → IsLawfulPlan plan → (v : ℕ) (node : Node) → slice_get plan.nodes v ≡ Some node → node.kind ≡ Scope → (q : ℕ) → putter_of plan.promises q ≡ Some v → slice_index (promise_lens plan.promises) q ≡ 3
 scope_three plan lawful v node is kind q by =
-    let scope = subst (IsLawfulKind plan.promises node) kind (lawful.parts.nodes v node is).kind in
+    let scope = subst (IsLawfulKind (shapes_in plan) plan.promises node) kind (lawful.parts.nodes v node is).kind in
     let put = subst (λ (o : Option Node). IsSomeAnd o (λ n. IsAmong n.puts q)) is (lawful.parts.put q v by) in
     let (p, puts, three) = scope.own in
     let same = among_one p q (subst (λ (l : List ℕ). IsAmong l q) puts put) in

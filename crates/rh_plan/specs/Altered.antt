@@ -2,7 +2,8 @@
 use Rattle.std.specs.Prelude.{ℕ, ◌≡◌, ◌<◌, List, Some, None, true, false, slice_get}
 use Rattle.rh_injector.specs.declared.faults.Strike.{Strike}
 use Rattle.rh_injector.specs.Faults.{names_attempt}
-use Rattle.rh_check.specs.Altered.{DiffersInOneWord, IsSumCheck}
+use Rattle.rh_sparse.specs.Laws.{DiffersInOneWord}
+use Rattle.rh_check.specs.Altered.{IsSumCheck}
 use Rattle.rh_rules.specs.declared.node.Node.{Node}
 use Rattle.rh_rules.specs.Kept.{KeptCheck}
 use Rattle.rh_plan.specs.Plans.{PlanData}

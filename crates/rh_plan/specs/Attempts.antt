@@ -1,5 +1,5 @@
 -- The attempts of a task, and how it is judged by them.
-use Rattle.std.specs.Prelude.{ℕ, List, Option, None, map}
+use Rattle.std.specs.Prelude.{ℕ, List, map}
 use Rattle.std.specs.List.{range_with_len}
 use Rattle.rh_injector.specs.declared.faults.Strike.{Strike}
 use Rattle.rh_rules.specs.declared.node.Node.{Node}
@@ -7,6 +7,7 @@ use Rattle.rh_plan.specs.Plans.{PlanData}
 use Rattle.rh_injector.specs.Faults.{faults_in}
 use Rattle.rh_plan.specs.Buffers.{BufferData, buffer_of}
 use Rattle.rh_plan.specs.Checking.{first_failing}
+use Rattle.rh_plan.specs.Correcting.{correction}
 use Rattle.rh_plan.specs.Judging.{NodeResult, attempts_of, judged_by}
 
 -- the buffer of attempt k of the task v on these awaited words
@@ -16,10 +17,6 @@ attempt_of plan faults v node inputs k = buffer_of plan (faults_in faults v k) i
 -- the buffers of all attempts that it may make
 abbrev pub attempts_made : PlanData → List Strike → ℕ → Node → List (List ℕ) → List BufferData
 attempts_made plan faults v node inputs = map (attempt_of plan faults v node inputs) (range_with_len 0 (attempts_of node.scheme))
-
--- the correction of a buffer by the checksums of a product
-abbrev pub correction : PlanData → Node → List (List ℕ) → BufferData → Option (ℕ × BufferData)
-correction plan node inputs buffer = None
 
 -- a task that is not skipped
 abbrev pub judged : PlanData → List Strike → ℕ → Node → List (List ℕ) → NodeResult

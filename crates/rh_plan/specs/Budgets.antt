@@ -13,8 +13,11 @@ use Rattle.rh_rules.specs.Lawful.{putter_of}
 use Rattle.rh_plan.specs.Plans.{PlanData}
 use Rattle.rh_plan.specs.Lawful.{IsLawfulPlan}
 use Rattle.rh_injector.specs.Faults.{names_task, names_attempt}
-use Rattle.rh_plan.specs.Buffers.{BufferData, buffer_of}
+use Rattle.rh_sparse.specs.Laws.{DiffersInOneWord}
+use Rattle.rh_rules.specs.Kept.{KeptCheck}
+use Rattle.rh_plan.specs.Buffers.{BufferData, buffer_of, buffer_with, words_put}
 use Rattle.rh_plan.specs.Checking.{first_failing}
+use Rattle.rh_plan.specs.Correcting.{product_check}
 use Rattle.rh_plan.specs.Judging.{tolerated}
 use Rattle.rh_plan.specs.Attempts.{attempt_of}
 use Rattle.rh_plan.specs.Results.{is_skipped, passes_by, inputs_in, results, all_results, ending_of, value_of}
@@ -52,12 +55,29 @@ pub record ReplaysWithin (plan : PlanData) (faults : List Strike) (v : ℕ) (nod
       → (attempt_of plan faults v node (fault_free_inputs plan v node) k ≡ fault_free_buffer plan v node → ⊥)
       → is_some (fault_free_failing plan v node (attempt_of plan faults v node (fault_free_inputs plan v node) k)) ≡ true
 
+-- the buffer has other words than the fault-free one in one put, which differ in one place, and is the same elsewhere
+pub record DiffersInOnePut (promise : ℕ) (words : List ℕ) (fault_free buffer : BufferData) : Type 0 where
+  pub altered : List ℕ
+  pub one : DiffersInOneWord words altered
+  pub elsewhere : buffer ≡ buffer_with promise altered fault_free
+
+-- The fault-free buffer passes all checks and puts the promise of the product's check. The attempt has this buffer, or one that differs
+-- from it in one word of that put and nowhere else.
+pub record CorrectsWithin (plan : PlanData) (faults : List Strike) (v : ℕ) (node : Node) : Type 0 where
+  pub passes : fault_free_failing plan v node (fault_free_buffer plan v node) ≡ None
+  pub check : KeptCheck
+  pub checked : product_check node.checks ≡ Some check
+  pub words : List ℕ
+  pub put : words_put check.promise (fault_free_buffer plan v node).puts ≡ Some words
+  pub near : (attempt_of plan faults v node (fault_free_inputs plan v node) 0 ≡ fault_free_buffer plan v node)
+      ⊎ DiffersInOnePut check.promise words (fault_free_buffer plan v node) (attempt_of plan faults v node (fault_free_inputs plan v node) 0)
+
 -- What a scheme tolerates. A faulted plain task is never within its budget.
 abbrev pub ToleratesFaults : PlanData → List Strike → ℕ → Node → Scheme → Type 0
 ToleratesFaults plan faults v node Plain = ⊥
 ToleratesFaults plan faults v node Replicate = attempts_named faults v (2 * tolerated + 1) ≤ tolerated
 ToleratesFaults plan faults v node (Replay limit) = ReplaysWithin plan faults v node limit
-ToleratesFaults plan faults v node Abft = ⊥
+ToleratesFaults plan faults v node Abft = CorrectsWithin plan faults v node
 
 -- the node is skipped in the run without faults
 abbrev pub IsSkippedFaultFree : PlanData → ℕ → Type 0

@@ -1,12 +1,17 @@
 -- The locals of an attempt of a task, and what it puts and drops.
-use Rattle.std.specs.Prelude.{ℕ, ◌+◌, ◌==◌, ◌++◌, List, [], ◌∷◌, Option, Some, None, Bool, true, not, cond, length, map, slice_index, slice_index_or}
-use Rattle.std.specs.List.{find}
+use Rattle.std.specs.Prelude.{ℕ, ◌≡◌, ◌+◌, ◌==◌, ◌++◌, List, [], ◌∷◌, Option, Some, None, Bool, true, not, cond, length, map, slice_get, slice_index, slice_index_or, if◌then◌else◌}
+use Rattle.std.specs.List.{AllByRecursion, find}
 use Rattle.std.specs.Option.{option_map}
 use Rattle.rh_words.specs.Kernels.{lit_value, gen_value, add_value, sub_value, mul_value, scale_value, shift_value, cut_value, join_value, sum_value, count_value}
+use Rattle.rh_stencil.specs.Steps.{step1_value}
+use Rattle.rh_stencil.specs.Grids.{step2_value}
+use Rattle.rh_sparse.specs.Matrix.{MatrixData}
+use Rattle.rh_sparse.specs.Product.{product_value}
 use Rattle.rh_injector.specs.declared.faults.Strike.{Strike}
 use Rattle.rh_rules.specs.declared.body.Step.{Step}
 use Rattle.rh_rules.specs.declared.body.Step.TheVariants.{Lit, Gen, Add, Sub, Mul, Scale, Shift, Cut, Join, Sum, Count, Stencil1, Stencil2, Product, Put, DropAwait}
 use Rattle.rh_rules.specs.Bodies.{drops_of}
+use Rattle.rh_rules.specs.Lawful.{promise_lens}
 use Rattle.rh_plan.specs.declared.made_put.MadePut.{MadePut}
 use Rattle.rh_plan.specs.Plans.{PlanData}
 use Rattle.rh_plan.specs.Faulted.{faulted}
@@ -23,7 +28,12 @@ buffer_data puts drops = record { puts = puts; drops = drops }
 abbrev pub local_at : List (List ℕ) → ℕ → List ℕ
 local_at locals i = slice_index_or locals i []
 
--- The result of a `let` on these locals. A stencil and a product are not built yet.
+-- the product of a matrix, where there is one, and a local
+abbrev pub product_if_held : Option MatrixData → List ℕ → List ℕ
+product_if_held None words = []
+product_if_held (Some a) words = product_value a words
+
+-- The result of a `let` on these locals.
 abbrev pub let_value : PlanData → List (List ℕ) → Step → Option (List ℕ)
 let_value plan locals (Lit words) = Some (lit_value words)
 let_value plan locals (Gen n start limit) = Some (gen_value n start limit)
@@ -36,9 +46,11 @@ let_value plan locals (Cut a from len) = Some (cut_value (local_at locals a) fro
 let_value plan locals (Join parts) = Some (join_value (map (local_at locals) parts))
 let_value plan locals (Sum a) = Some (sum_value (local_at locals a) ∷ [])
 let_value plan locals (Count a) = Some (count_value (local_at locals a) ∷ [])
-let_value plan locals (Stencil1 l m r k s) = None
-let_value plan locals (Stencil2 north south west east m cols k s) = None
-let_value plan locals (Product matrix v) = None
+let_value plan locals (Stencil1 l m r k s) = Some (step1_value (local_at locals l) (local_at locals m) (local_at locals r) k s)
+let_value plan locals (Stencil2 north south west east m cols k s) =
+    let at = local_at locals in
+    Some (step2_value (at north) (at south) (at west) (at east) (at m) cols k s)
+let_value plan locals (Product matrix v) = Some (product_if_held (slice_get plan.matrices matrix) (local_at locals v))
 let_value plan locals (Put promise local when) = None
 let_value plan locals (DropAwait promise) = None
 
@@ -101,3 +113,19 @@ buffer_of plan faults inputs steps = buffer_data (puts_of (locals_of plan faults
 -- the words that a buffer puts to a promise
 abbrev pub words_put : ℕ → List MadePut → Option (List ℕ)
 words_put q puts = option_map (λ p. p.words) (find (λ p. p.promise == q) puts)
+
+-- each put has as many words as its promise
+abbrev pub PutsFit : PlanData → List MadePut → Type 0
+PutsFit plan puts = AllByRecursion (λ p. length p.words ≡ slice_index (promise_lens plan.promises) p.promise) puts
+
+abbrev pub made_put : ℕ → List ℕ → MadePut
+made_put promise words = record { promise = promise; words = words }
+
+-- the puts with these words in the place of those of the first put to the promise
+abbrev pub puts_with : ℕ → List ℕ → List MadePut → List MadePut
+puts_with q words [] = []
+puts_with q words (p ∷ puts) = if p.promise == q then made_put q words ∷ puts else p ∷ puts_with q words puts
+
+-- the buffer with these words in the place of those that it puts to the promise
+abbrev pub buffer_with : ℕ → List ℕ → BufferData → BufferData
+buffer_with q words b = buffer_data (puts_with q words b.puts) b.drops

@@ -5,6 +5,7 @@ pub mod Plans
 pub mod Faulted
 pub mod Buffers
 pub mod Checking
+pub mod Correcting
 pub mod Judging
 pub mod Derived
 pub mod Grouping
@@ -21,3 +22,7 @@ pub mod Altered
 pub mod Followed
 pub mod Tried
 pub mod PlanTexts
+pub mod FaultLines
+pub mod FaultsOfPlans
+pub mod FaultTables
+pub mod NamedFaults

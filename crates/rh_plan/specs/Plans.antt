@@ -1,16 +1,13 @@
--- A plan as data: lists of nodes, promises and edges, each by its number.
+-- A plan as data: lists of nodes, promises, edges and matrices, each by its number.
 use Rattle.std.specs.Prelude.{ℕ, ◌≡◌, ◌+◌, List, [], ◌∷◌, ◌++◌, Some, None, map, unwrap_or, slice_get, option_to_list}
 use Rattle.rh_rules.specs.declared.node.Kind.{Kind}
 use Rattle.rh_rules.specs.declared.node.Kind.TheVariants.{Task, Group, Scope}
 use Rattle.rh_rules.specs.declared.node.Node.{Node}
 use Rattle.rh_rules.specs.declared.node.PlannedPromise.{PlannedPromise}
+use Rattle.rh_sparse.specs.Matrix.{MatrixData}
+use Rattle.rh_rules.specs.Bodies.{Shape, shapes_of}
 use Rattle.rh_rules.specs.Lawful.{putter_of}
 use Rattle.rh_plan.specs.declared.edge.Edge.{Edge}
-
--- a matrix: how many columns it has, and of each row the columns and values of its entries
-pub record MatrixData : Type 0 where
-  pub cols : ℕ
-  pub rows : List (List (ℕ × ℕ))
 
 -- All else that is said of a plan follows from these lists.
 pub record PlanData : Type 0 where
@@ -18,6 +15,10 @@ pub record PlanData : Type 0 where
   pub promises : List PlannedPromise
   pub edges : List Edge
   pub matrices : List MatrixData
+
+-- how many rows and columns the matrices have
+abbrev pub shapes_in : PlanData → List Shape
+shapes_in plan = shapes_of plan.matrices
 
 -- P holds of the node of this number, where there is one
 abbrev pub OfNode : PlanData → ℕ → (Node → Type 0) → Type 0
@@ -53,6 +54,6 @@ abbrev pub edges_from : List PlannedPromise → ℕ → List Node → List Edge
 edges_from promises v [] = []
 edges_from promises v (node ∷ nodes) = edges_into promises v node ++ edges_from promises (v + 1) nodes
 
--- the plan of these parts, which has no matrices yet
-abbrev pub plan_data : List Node → List PlannedPromise → List Edge → PlanData
-plan_data nodes promises edges = record { nodes = nodes; promises = promises; edges = edges; matrices = [] }
+-- the plan of these parts
+abbrev pub plan_data : List Node → List PlannedPromise → List Edge → List MatrixData → PlanData
+plan_data nodes promises edges matrices = record { nodes = nodes; promises = promises; edges = edges; matrices = matrices }

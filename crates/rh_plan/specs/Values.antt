@@ -5,7 +5,7 @@ use Rattle.rh_injector.specs.declared.faults.Strike.{Strike}
 use Rattle.rh_rules.specs.declared.node.Node.{Node}
 use Rattle.rh_rules.specs.declared.node.Kind.TheVariants.{Task}
 use Rattle.rh_rules.specs.Lawful.{promise_lens}
-use Rattle.rh_plan.specs.Plans.{PlanData}
+use Rattle.rh_plan.specs.Plans.{PlanData, shapes_in}
 use Rattle.rh_rules.specs.Lawful.{input_lens}
 use Rattle.rh_plan.specs.Lawful.{IsLawfulPlan}
 use Rattle.rh_rules.specs.Bodies.{AreSoundSteps}
@@ -15,7 +15,7 @@ use Rattle.rh_plan.specs.Results.{results, result_of_node, cause_in, value_in, i
 pub record IsReady (plan : PlanData) (faults : List Strike) (v : ℕ) (node : Node) : Type 0 where
   pub present : AllByRecursion (λ q. IsSomeAnd (value_in plan (results plan faults v) q) (λ w. length w ≡ slice_index (promise_lens plan.promises) q)) node.awaits
   pub lens : map length (inputs_in plan (results plan faults v) node.awaits) ≡ input_lens plan.promises node
-  pub sound : AreSoundSteps (promise_lens plan.promises) (map length (inputs_in plan (results plan faults v) node.awaits)) node.body
+  pub sound : AreSoundSteps (shapes_in plan) (promise_lens plan.promises) (map length (inputs_in plan (results plan faults v) node.awaits)) node.body
 
 abbrev pub UnskippedTasksAreReady : Type 0
 UnskippedTasksAreReady = (plan : PlanData) → IsLawfulPlan plan → (faults : List Strike) (v : ℕ) (node : Node)

@@ -4,7 +4,11 @@ ghost use Rattle.std.specs.Prelude.{◌≡◌, ◌⊎◌, ℕ, List};
 ghost use Rattle.rh_words.specs.declared.reason.Reason.{Reason};
 ghost use Rattle.rh_task_text.specs.Program.{ProgramText};
 ghost use Rattle.rh_planner.specs.Planned.{FirstBreak};
+ghost use Rattle.rh_injector.specs.declared.fault_text.FaultLine.{FaultLine};
+ghost use Rattle.rh_check.specs.Users.{HandedChecks};
 ghost use Rattle.rh_injector.specs.declared.faults.Strike.{Strike};
+ghost use Rattle.rh_plan.specs.FaultLines.{AreFaultsOfText, FirstBadFault};
+ghost use Rattle.rh_plan.specs.FaultsOfPlans.{AreFaultsOf};
 ghost use Rattle.rh_plan.specs.Plans.{PlanData};
 ghost use Rattle.rh_plan.specs.Planned.{IsPlanOf};
 ghost use Rattle.rh_plan.specs.Lawful.{IsLawfulPlan};
@@ -15,8 +19,8 @@ ghost use Rattle.rh_plan.specs.PlanTexts.{PlansSayTheirTexts};
 ghost use Rattle.rh_plan.specs.Tried.{FewTrials};
 ghost use Rattle.rh_plan.specs.Values.{ResultsRestOnLower, UnskippedTasksAreReady};
 
-/// A plan says its text: the `promise` lines are its promises, and the other lines are those of its nodes' tasks, one by one, where the
-/// numbers of promises and locals are read by their names.
+/// A plan says its text: the `promise` and `finish` lines are its promises, and all lines are those of tasks, groups and scopes, within one
+/// another, which are its nodes, where the numbers of promises, locals and handed-in checks are read by their names.
 pub fn plans_say_their_texts()
     ensures { PlansSayTheirTexts }
 {}
@@ -56,11 +60,26 @@ pub fn few_trials()
     ensures { FewTrials }
 {}
 
-/// Each text has a plan or a first break, never both, and one plan at most.
+/// With given handed-in checks each text has a plan or a first break, never both, and one plan at most.
 pub fn a_text_has_a_plan_or_a_first_break()
-    ensures either { (text : ProgramText)
-        → ((plan : PlanData) × IsPlanOf text plan) ⊎ ((line : ℕ) × (reason : Reason) × FirstBreak text line reason) }
-    ensures never_both { (text : ProgramText) (plan : PlanData) (line : ℕ) (reason : Reason)
-        → IsPlanOf text plan → FirstBreak text line reason → ⊥ }
-    ensures one_plan { (text : ProgramText) (plan other : PlanData) → IsPlanOf text plan → IsPlanOf text other → plan ≡ other }
+    ensures either { (handed : HandedChecks) (text : ProgramText)
+        → ((plan : PlanData) × IsPlanOf handed text plan) ⊎ ((line : ℕ) × (reason : Reason) × FirstBreak handed text line reason) }
+    ensures never_both { (handed : HandedChecks) (text : ProgramText) (plan : PlanData) (line : ℕ) (reason : Reason)
+        → IsPlanOf handed text plan → FirstBreak handed text line reason → ⊥ }
+    ensures one_plan { (handed : HandedChecks) (text : ProgramText) (plan other : PlanData) → IsPlanOf handed text plan → IsPlanOf handed text other → plan ≡ other }
+{}
+
+/// The lines of a fault text have faults in a plan or a first bad line, never both; one list of faults, in order, and one line
+/// with one reason. The faults of a text are the plan's.
+pub fn a_fault_text_has_faults_or_a_first_bad_line()
+    ensures either { (plan : PlanData) (lines : List FaultLine) → ((faults : List Strike) × AreFaultsOfText plan lines faults)
+        ⊎ ((line : ℕ) × (reason : Reason) × FirstBadFault plan lines line reason) }
+    ensures never_both { (plan : PlanData) (lines : List FaultLine) (faults : List Strike) (line : ℕ) (reason : Reason)
+        → AreFaultsOfText plan lines faults → FirstBadFault plan lines line reason → ⊥ }
+    ensures one_list { (plan : PlanData) (lines : List FaultLine) (xs ys : List Strike)
+        → AreFaultsOfText plan lines xs → AreFaultsOfText plan lines ys → xs ≡ ys }
+    ensures one_refusal { (plan : PlanData) (lines : List FaultLine) (l m : ℕ) (r q : Reason)
+        → FirstBadFault plan lines l r → FirstBadFault plan lines m q → (l ≡ m) × (r ≡ q) }
+    ensures plans { (plan : PlanData) (lines : List FaultLine) (faults : List Strike)
+        → IsLawfulPlan plan → AreFaultsOfText plan lines faults → AreFaultsOf plan faults }
 {}

@@ -2,6 +2,7 @@
 
 ghost use Rattle.std.specs.Prelude.{◌≡◌, ◌<◌, ℕ, Some, IfOk, length, slice_get};
 ghost use Rattle.rh_rules.specs.Kept.{planned_checks};
+ghost use Rattle.rh_rules.specs.Bodies.{shapes_of};
 ghost use Rattle.rh_rules.specs.Lawful.{AreLawful, putter_of};
 
 use crate::attempt_limit::attempts_of;
@@ -12,17 +13,19 @@ use crate::grouping::group_of;
 use crate::outcome::Cause;
 use crate::references::is_shown;
 use crate::tables::{Tables, tables_of};
+use rh_check::Matrices;
 use rh_rules::{Body, Kind, Node, PlannedCheck, PlannedPromise, Scheme};
 use rh_words::{Name, OutOfMemory};
 use std::alloc::Global;
 use std::marker::Model;
 
-/// What is run: nodes (tasks, groups and finish scopes), promises and edges, each named by its number from 0.
+/// What is run: nodes (tasks, groups and finish scopes), promises, edges and matrices, each named by its number from 0.
 #[derive(Drop)]
 pub struct Plan {
     nodes: Vec<Node>,
     promises: Vec<PlannedPromise>,
     edges: Vec<Edge>,
+    matrices: Matrices,
     tables: Tables,
 }
 
@@ -32,9 +35,9 @@ impl Model for Plan {
 
     ghost Value = { PlanData };
 
-    ghost view = { λ p. plan_data p.nodes.items p.promises.items p.edges.items };
+    ghost view = { λ p. plan_data p.nodes.items p.promises.items p.edges.items p.matrices };
 
-    ghost invariant = { λ p. IsPlanWith (plan_data p.nodes.items p.promises.items p.edges.items) p.tables };
+    ghost invariant = { λ p. IsPlanWith (plan_data p.nodes.items p.promises.items p.edges.items p.matrices) p.tables };
 }
 
 impl Plan {
@@ -43,14 +46,15 @@ impl Plan {
     ghost use Rattle.rh_plan.specs.Lawful.{IsLawfulPlan};
     ghost use Rattle.rh_plan.specs.Results.{blamed};
 
-    /// The plan of these nodes and promises.
+    /// The plan of these nodes, promises and matrices.
     pub fn of(
         alloc: Global,
         nodes: Vec<Node>,
         promises: Vec<PlannedPromise>,
+        matrices: Matrices,
     ) -> Result<Plan, OutOfMemory>
-        requires { AreLawful nodes.items promises.items }
-        ensures { IfOk result (λ plan. plan ≡ plan_data nodes.items promises.items (edges_from promises.items 0 nodes.items)) }
+        requires { AreLawful (shapes_of matrices) nodes.items promises.items }
+        ensures { IfOk result (λ plan. plan ≡ plan_data nodes.items promises.items (edges_from promises.items 0 nodes.items) matrices) }
     {
         let edges = edges_of(alloc, &promises, &nodes)?;
         let count = nodes.as_slice().len();
@@ -59,6 +63,7 @@ impl Plan {
             nodes,
             promises,
             edges,
+            matrices,
             tables,
         })
     }
@@ -85,6 +90,21 @@ impl Plan {
         ensures lawful { IsLawfulPlan self.now }
     {
         self.edges.len() as u32
+    }
+
+    /// The nodes, by their numbers. Every plan is lawful.
+    pub(crate) fn node_list(&self) -> &[Node]
+        ensures value { result.now ≡ self.now.nodes }
+        ensures lawful { IsLawfulPlan self.now }
+    {
+        self.nodes.as_slice()
+    }
+
+    /// The promises, by their numbers.
+    pub(crate) fn promise_list(&self) -> &[PlannedPromise]
+        ensures { result.now ≡ self.now.promises }
+    {
+        self.promises.as_slice()
     }
 
     /// The name of a node.
@@ -167,6 +187,14 @@ impl Plan {
         self.nodes[node as usize].checks.as_slice()
     }
 
+    /// The names of the results of a task's `let` lines, in order: its locals behind its awaits. A group and a scope have none.
+    pub fn lets(&self, node: u32) -> &[Name]
+        requires { node < length self.now.nodes }
+        ensures { OfNode self.now node (λ n. result.now ≡ n.lets) }
+    {
+        self.nodes[node as usize].lets.as_slice()
+    }
+
     /// The node that may put a promise, where there is one.
     pub fn putter(&self, promise: u32) -> Option<u32>
         requires { promise < length self.now.promises }
@@ -205,6 +233,13 @@ impl Plan {
         ensures { OfPromise self.now promise (λ p. result ≡ is_shown p) }
     {
         is_shown(&self.promises[promise as usize])
+    }
+
+    /// The matrices that its steps and checks name by their numbers.
+    pub fn matrices(&self) -> &Matrices
+        ensures { result.now ≡ self.now.matrices }
+    {
+        &self.matrices
     }
 
     /// How many references a promise has: its putter's, one for each node that awaits it, and the report's where it is shown.

@@ -1,7 +1,8 @@
 //! The plan of a small text, worked out by hand.
 
 use crate::{Cause, Plan, plan};
-use rh_rules::Kind;
+use rh_check::{NoChecks, Spec};
+use rh_rules::{Kind, Scheme};
 use rh_task_text::read_program;
 use std::alloc::Global;
 use std::test::Fail;
@@ -42,12 +43,12 @@ drop x
 end
 ";
 
-fn planned(alloc: Global, text: &[u8]) -> Option<Plan> {
+pub fn planned(alloc: Global, text: &[u8]) -> Option<Plan> {
     if text.len() >= 1_000_000 {
         return None;
     }
     let text = read_program(alloc, text).ok()?;
-    plan(alloc, &text).ok()
+    plan(alloc, &text, &NoChecks).ok()
 }
 
 fn is_node(plan: &Plan, node: u32, row: &NodeRow) -> bool {
@@ -149,5 +150,39 @@ fn four_promises_have_these_references(rt: HostRuntime) -> Result<(), Fail> {
 fn the_first_absent_promise_is_blamed(rt: HostRuntime) -> Result<(), Fail> {
     let plan = planned(rt.alloc(), TEXT).ok_or("no plan")?;
     assert!(rt; blames_the_first_absent(&plan));
+    Ok(())
+}
+
+/// Whether the node is replayed up to 3 times and has one check, that promise 1 sums to 30.
+fn is_replayed(plan: &Plan, node: u32) -> bool {
+    if node >= plan.nodes() {
+        return false;
+    }
+    let [check] = plan.checks_of(node) else {
+        return false;
+    };
+    let (Scheme::Replay { limit: 3 }, Spec::Total { sum: 30 }) = (plan.scheme(node), check.spec)
+    else {
+        return false;
+    };
+    check.promise == 1 && plan.attempts(node) == 3 && plan.need(node) == 10
+}
+
+#[test]
+fn a_replayed_task_has_its_attempts_and_its_check(rt: HostRuntime) -> Result<(), Fail> {
+    let text = b"rhc 1
+promise x 2
+promise y 2
+task a replicate
+let v lit 10 20
+put x v
+end
+task b replay 3 await x
+put y x
+check total y 30
+end
+";
+    let plan = planned(rt.alloc(), text).ok_or("no plan")?;
+    assert!(rt; plan.nodes() == 2 && is_replayed(&plan, 1) && plan.attempts(0) == 3);
     Ok(())
 }

@@ -1,10 +1,16 @@
 -- What each kind of statement adds to the facts above.
-use Rattle.std.proofs.Common.{◌≡◌, ℕ, ◌+◌, List, [], ◌∷◌, ◌++◌, Bool, false, Option, Some, None, refl, arith, map, append-nil}
+use Rattle.std.proofs.Common.{◌≡◌, ℕ, ◌+◌, List, [], ◌∷◌, ◌++◌, Bool, true, false, arith, map, append-nil, None}
 use Rattle.rh_task_text.specs.declared.statement.Statement.TheVariants as text
 use Rattle.rh_task_text.specs.declared.statement.SchemeText.TheVariants.{Plain}
-use Rattle.rh_rules.specs.Tables.{declared_promise, promise_number, number_of}
+use Rattle.rh_rules.specs.Tables.{declared_promise, promise_number, number_of, putting, given}
 use Rattle.rh_rules.specs.Facets.{facets}
-use Rattle.rh_rules.specs.Above.{Look, Facts, TaskBlock, await_local, drop_step, task_node}
+use Rattle.rh_rules.specs.declared.block.OpenBlock.{OpenBlock}
+use Rattle.rh_rules.specs.declared.block.OpenBlock.TheVariants.{TaskBlock, GroupBlock, ScopeBlock}
+use Rattle.rh_rules.specs.declared.node.Node.{Node}
+use Rattle.rh_rules.specs.Above.{Look, Facts, await_local, drop_step, task_node, group_node, scope_node, group_in, lets_of, planned_scheme}
+use Rattle.rh_rules.specs.declared.node.Scheme.TheVariants as schemes
+use Rattle.rh_task_text.specs.declared.statement.SchemeText.{SchemeText}
+use Rattle.rh_check.specs.Users.{HandedChecks}
 use Rattle.rh_planner.specs.Planned.{look_above}
 use Rattle.rh_planner.specs.Following.{after}
 
@@ -18,36 +24,104 @@ pub after_promise : (look : Look) (f : Facts) (name : List ℕ) (len : ℕ) (tem
 unfolding facets
 after_promise look f name len temp = simp (append-nil, no_more)
 
-abbrev pub with_task : Facts → List ℕ → List (List ℕ) → Facts
-with_task f name awaits = record f {
+abbrev pub with_task : Facts → List ℕ → SchemeText → List (List ℕ) → Facts
+with_task f name scheme awaits = record f {
   names = f.names ++ name ∷ [];
   blocks = TaskBlock name ∷ f.blocks;
   inputs = map (promise_number f.promises) awaits;
   locals = map (await_local f.promises) awaits;
   drops = [];
   steps = [];
-  scheme = Plain;
+  scheme = planned_scheme scheme;
+  checks = [];
 }
 
-pub after_task : (f : Facts) (name : List ℕ) (awaits : List (List ℕ)) → after look_above f (text.Task name Plain awaits) ≡ with_task f name awaits
+pub after_task : (handed : HandedChecks) (f : Facts) (name : List ℕ) (scheme : SchemeText) (awaits : List (List ℕ)) → after (look_above handed) f (text.Task name scheme awaits) ≡ with_task f name scheme awaits
 unfolding facets
-after_task f name awaits = simp (append-nil, no_more)
+after_task handed f name scheme awaits = simp (append-nil, no_more)
 
-abbrev pub with_end : Facts → List ℕ → Facts
-with_end f name = record f {
-  blocks = [];
-  count = f.count + 1;
-  nodes = f.nodes ++ task_node name f.scheme f.inputs None f.steps ∷ [];
+abbrev pub with_finish : Facts → List ℕ → Facts
+with_finish f name = record f {
+  names = f.names ++ name ∷ [];
+  promises = f.promises ++ declared_promise name 3 false true ∷ [];
+  blocks = ScopeBlock name f.count ∷ f.blocks;
   inputs = [];
   locals = [];
   drops = [];
   steps = [];
-  scheme = Plain;
+  scheme = schemes.Plain;
+  checks = [];
 }
 
-pub after_end : (look : Look) (f : Facts) (name : List ℕ) → f.blocks ≡ TaskBlock name ∷ [] → after look f text.End ≡ with_end f name
+pub after_finish : (look : Look) (f : Facts) (name : List ℕ) → after look f (text.Finish name) ≡ with_finish f name
 unfolding facets
-after_end look f name e = rw e (simp append-nil)
+after_finish look f name = simp (append-nil, no_more)
+
+abbrev pub group_in_facts : Facts → List ℕ → List (List ℕ) → Node
+group_in_facts f name awaits = group_node name (map (promise_number f.promises) awaits) (group_in f.blocks)
+
+abbrev pub with_group : Facts → List ℕ → List (List ℕ) → Facts
+with_group f name awaits = record f {
+  names = f.names ++ name ∷ [];
+  blocks = GroupBlock f.count ∷ f.blocks;
+  count = f.count + 1;
+  nodes = f.nodes ++ group_in_facts f name awaits ∷ [];
+  inputs = [];
+  locals = [];
+  drops = [];
+  steps = [];
+  scheme = schemes.Plain;
+  checks = [];
+}
+
+pub after_group : (handed : HandedChecks) (f : Facts) (name : List ℕ) (awaits : List (List ℕ)) → after (look_above handed) f (text.Group name awaits) ≡ with_group f name awaits
+unfolding facets
+after_group handed f name awaits = simp append-nil
+
+-- the facts below an `end`, with these blocks left open
+abbrev pub with_closed : Facts → List OpenBlock → Facts
+with_closed f outer = record f {
+  blocks = outer;
+  inputs = [];
+  locals = [];
+  drops = [];
+  steps = [];
+  scheme = schemes.Plain;
+  checks = [];
+}
+
+abbrev pub ended_task : Facts → List ℕ → List OpenBlock → Node
+ended_task f name outer = task_node name f.scheme f.inputs (lets_of f.inputs f.locals) (group_in outer) f.steps f.checks
+
+-- and with the node of the task
+abbrev pub with_end : Facts → List ℕ → List OpenBlock → Facts
+with_end f name outer = record (with_closed f outer) {
+  count = f.count + 1;
+  nodes = f.nodes ++ ended_task f name outer ∷ [];
+}
+
+pub after_end : (look : Look) (f : Facts) (name : List ℕ) (outer : List OpenBlock) → f.blocks ≡ TaskBlock name ∷ outer → after look f text.End ≡ with_end f name outer
+unfolding facets
+after_end look f name outer e = rw e (simp append-nil)
+
+pub after_end_group : (look : Look) (f : Facts) (number : ℕ) (outer : List OpenBlock) → f.blocks ≡ GroupBlock number ∷ outer → after look f text.End ≡ with_closed f outer
+unfolding facets
+after_end_group look f number outer e = rw e (simp (append-nil, no_more))
+
+abbrev pub ended_scope : Facts → List ℕ → ℕ → List OpenBlock → Node
+ended_scope f name first outer = scope_node name (promise_number f.promises name) (group_in outer) first f.count
+
+-- or with that of the scope, which puts its own promise
+abbrev pub with_scope_end : Facts → List ℕ → ℕ → List OpenBlock → Facts
+with_scope_end f name first outer = record (with_closed f outer) {
+  promises = map (given (putting name f.count)) f.promises;
+  count = f.count + 1;
+  nodes = f.nodes ++ ended_scope f name first outer ∷ [];
+}
+
+pub after_end_scope : (look : Look) (f : Facts) (name : List ℕ) (first : ℕ) (outer : List OpenBlock) → f.blocks ≡ ScopeBlock name first ∷ outer → after look f text.End ≡ with_scope_end f name first outer
+unfolding facets
+after_end_scope look f name first outer e = rw e (simp append-nil)
 
 abbrev pub with_drop : Facts → List ℕ → Facts
 with_drop f q = record f { drops = f.drops ++ number_of f.locals q ∷ []; steps = f.steps ++ drop_step f.inputs f.locals q ∷ [] }

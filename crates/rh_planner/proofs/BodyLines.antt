@@ -4,21 +4,28 @@ use Rattle.std.specs.Prelude.{nat_eq, sum, ◌||◌, ◌&&◌}
 use Rattle.std.specs.List.{AllByRecursion, IsDistinct}
 use Rattle.std.proofs.lemmas.Bool.{false≢true, true≢false, cases_lt}
 use Rattle.std.proofs.lemmas.Bool.Decides.{eqb_tells}
-use Rattle.std.proofs.lemmas.Option.{none-some}
+use Rattle.std.specs.Str.{bytes_eq}
+use Rattle.std.specs.Prelude.{slice_get}
+use Rattle.std.proofs.lemmas.Option.{none-some, same_Some}
 use Rattle.std.proofs.lemmas.List.{map-append, length-map}
 use Rattle.std.proofs.lemmas.Map.Keys.{apart_from_distinct}
+use Rattle.rh_words.specs.Naming.{is_name}
 use Rattle.rh_rules.specs.declared.body.Step.{Step}
 use Rattle.rh_rules.specs.declared.body.Step.TheVariants as steps
 use Rattle.rh_rules.specs.declared.node.PlannedPromise.{PlannedPromise}
-use Rattle.rh_rules.specs.Tables.{LocalName, local, Putting, putting, given, is_in, promise_number, lens_of}
+use Rattle.rh_rules.specs.Tables.{LocalName, local, Putting, putting, given, is_in, is_among, promise_number, lens_of, is_local}
 use Rattle.rh_rules.specs.Bodies.{AreSoundSteps, IsSoundStep, let_len, with_len, lens_at, lens_after, put_at, drop_at, promises_put, drops_of}
 use Rattle.rh_rules.specs.Lawful.{promise_lens, putter_of, IsAmong}
 use Rattle.rh_rules.specs.Above.{Facts}
 use Rattle.rh_planner.proofs.Stepping.{promises_put_push}
-use Rattle.rh_planner.proofs.DeclaredPromises.{IsDeclaredAs, putter_at, same_name, name_is, one_place}
-use Rattle.rh_planner.proofs.PutPromises.{stays_given, all_given, put_grows, put_new, put_split}
-use Rattle.rh_planner.proofs.SoundTasks.{IsShort, IsSoundTask, lens_here, awaited_within, locals_grown, task_grown, steps_push, lens_after_push, all_map, all_append}
-use Rattle.rh_planner.proofs.SoundFacts.{AreNamed, AreSound, IsSoundPromise, node_grown, distinct_push, among_last, among_more}
+use Rattle.rh_planner.proofs.DeclaredPromises.{IsDeclaredAs, putter_at, scope_at, same_name, name_is, one_place}
+use Rattle.rh_planner.proofs.PutPromises.{stays_given, all_given, put_grows, put_new, put_split, given_other, unput_given}
+use Rattle.rh_planner.proofs.SoundTasks.{IsShort, IsSoundTask, scope_of, lens_here, awaited_within, locals_grown, task_grown, steps_push, lens_after_push, all_map, all_append}
+use Rattle.rh_planner.proofs.SoundFacts.{AreNamed, AreSound, IsSoundPromise, scope_names, node_grown, blocks_kept, distinct_push, among_last, among_more}
+use Rattle.rh_rules.specs.Kept.{KeptCheck}
+use Rattle.rh_rules.specs.Rules.{may_check}
+use Rattle.rh_planner.proofs.SoundChecks.{IsSoundCheck, check_grown}
+use Rattle.rh_planner.proofs.LocalNames.{locals_pushed, locals_named_grown}
 
 abbrev shown_by : PlannedPromise → ℕ
 shown_by p = cond (not p.temp && not p.scope) p.len 0
@@ -32,36 +39,39 @@ nothing_more : (whole before added : List ℕ) → whole ≡ before ++ added →
 nothing_more whole before added more none = more ∙ ap (λ (l : List ℕ). before ++ l) none ∙ append-nil before
 
 -- a step that is sound among the locals is sound after the steps before it
-sound_push : (ps : List PlannedPromise) (v : ℕ) (inputs : List ℕ) (body : List Step) (lens : List ℕ) (step : Step) → IsSoundTask ps v inputs body → lens_here ps inputs body ≡ lens → IsSoundStep (promise_lens ps) lens step
-    → AreSoundSteps (promise_lens ps) (lens_at (promise_lens ps) inputs) (body ++ step ∷ [])
-sound_push ps v inputs body lens step task same sound = steps_push (promise_lens ps) (lens_at (promise_lens ps) inputs) body step task.sound (subst (λ (l : List ℕ). IsSoundStep (promise_lens ps) l step) (sym same) sound)
+sound_push : (ps : List PlannedPromise) (v : ℕ) (inputs : List ℕ) (body : List Step) (lens : List ℕ) (step : Step) → IsSoundTask ps v inputs body → lens_here ps inputs body ≡ lens → IsSoundStep [] (promise_lens ps) lens step
+    → AreSoundSteps [] (promise_lens ps) (lens_at (promise_lens ps) inputs) (body ++ step ∷ [])
+sound_push ps v inputs body lens step task same sound = steps_push (promise_lens ps) (lens_at (promise_lens ps) inputs) body step task.sound (subst (λ (l : List ℕ). IsSoundStep [] (promise_lens ps) l step) (sym same) sound)
 
-pub sound_let : (f : Facts) (x : List ℕ) (len : ℕ) (step : Step) → AreSound f → IsSoundStep (promise_lens f.promises) (lens_of f.locals) step → let_len (lens_of f.locals) step ≡ Some len → IsShort len → put_at step ≡ [] → drop_at step ≡ []
+pub sound_let : (f : Facts) (x : List ℕ) (len : ℕ) (step : Step) → AreSound f → is_local f.locals x ≡ false → is_name x ≡ true → IsSoundStep [] (promise_lens f.promises) (lens_of f.locals) step → let_len [] (lens_of f.locals) step ≡ Some len → IsShort len → put_at step ≡ [] → drop_at step ≡ []
     → AreSound (record f { locals = f.locals ++ local x len ∷ []; steps = f.steps ++ step ∷ [] })
-sound_let f x len step s sound long short no_put no_drop =
+sound_let f x len step s fresh named sound long short no_put no_drop =
     let ps : List PlannedPromise = f.promises in
     let puts : promises_put (f.steps ++ step ∷ []) ≡ promises_put f.steps = nothing_more _ (promises_put f.steps) (put_at step) (promises_put_push f.steps step) no_put in
     let drops : drops_of (f.steps ++ step ∷ []) ≡ drops_of f.steps = nothing_more _ (drops_of f.steps) (drop_at step) (drops_of_push f.steps step) no_drop in
     let longer : lens_here ps f.inputs (f.steps ++ step ∷ []) ≡ lens_of f.locals ++ len ∷ [] =
     lens_after_push (lens_at (promise_lens ps) f.inputs) f.steps step
-    ∙ ap (λ (l : List ℕ). lens_after l step) s.lens
+    ∙ ap (λ (l : List ℕ). lens_after [] l step) s.lens
     ∙ ap (λ (o : Option ℕ). with_len (lens_of f.locals) o) long in
     let all_short : AllByRecursion IsShort (lens_of f.locals) = subst (AllByRecursion IsShort) s.lens s.task.short in
     record {
       promise_names = s.promise_names;
       node_names = s.node_names;
-      task_names = s.task_names;
+      blocks = s.blocks;
       promises = s.promises;
       few = s.few;
       total = s.total;
       shown = s.shown;
       ended = s.ended;
+      enclosed = s.enclosed;
+      scopes = s.scopes;
       task = record {
         awaited = s.task.awaited;
         awaits_once = s.task.awaits_once;
         sound = sound_push ps (length f.nodes) f.inputs f.steps (lens_of f.locals) step s.task s.lens sound;
         own = subst (AllByRecursion (λ q. putter_of ps q ≡ Some (length f.nodes))) (sym puts) s.task.own;
         once = subst (IsDistinct nat_eq) (sym puts) s.task.once;
+        unscoped = subst (AllByRecursion (λ q. scope_of ps q ≡ Some false)) (sym puts) s.task.unscoped;
         dropped = subst (AllByRecursion (IsAmong f.inputs)) (sym drops) s.task.dropped;
         drops_once = subst (IsDistinct nat_eq) (sym drops) s.task.drops_once;
         short = subst (AllByRecursion IsShort) (sym longer) (all_append IsShort (lens_of f.locals) (len ∷ []) all_short (short, tt));
@@ -69,6 +79,9 @@ sound_let f x len step s sound long short no_put no_drop =
       lens = longer ∙ sym (map-append (λ (t : LocalName). t.len) f.locals (local x len ∷ []));
       drops = drops ∙ s.drops;
       drops_within = s.drops_within;
+      named = locals_pushed ps f.inputs f.locals x len s.named fresh named;
+      checks = subst (λ (l : List ℕ). AllByRecursion (IsSoundCheck ps f.inputs l) f.checks) (sym puts) s.checks;
+      unchecked = s.unchecked;
       put = λ q v e. elim (s.put q v e) [
         | inl old ↦ inl old
         | inr open_one ↦ inr (open_one.0, subst (λ (l : List ℕ). IsAmong l q) (sym puts) open_one.1)
@@ -127,18 +140,21 @@ sound_drop f i s within fresh =
     record {
       promise_names = s.promise_names;
       node_names = s.node_names;
-      task_names = s.task_names;
+      blocks = s.blocks;
       promises = s.promises;
       few = s.few;
       total = s.total;
       shown = s.shown;
       ended = s.ended;
+      enclosed = s.enclosed;
+      scopes = s.scopes;
       task = record {
         awaited = s.task.awaited;
         awaits_once = s.task.awaits_once;
         sound = sound_push ps (length f.nodes) f.inputs f.steps (lens_of f.locals) step s.task s.lens there;
         own = subst (AllByRecursion (λ q. putter_of ps q ≡ Some (length f.nodes))) (sym puts) s.task.own;
         once = subst (IsDistinct nat_eq) (sym puts) s.task.once;
+        unscoped = subst (AllByRecursion (λ q. scope_of ps q ≡ Some false)) (sym puts) s.task.unscoped;
         dropped = subst (AllByRecursion (IsAmong f.inputs)) (sym drops) (all_append (IsAmong f.inputs) (drops_of f.steps) (slice_index f.inputs i ∷ []) s.task.dropped (index_among f.inputs i within, tt));
         drops_once = subst (IsDistinct nat_eq) (sym drops) (distinct_push (drops_of f.steps) (slice_index f.inputs i) s.task.drops_once apart);
         short = subst (AllByRecursion IsShort) (sym same) s.task.short;
@@ -146,16 +162,30 @@ sound_drop f i s within fresh =
       lens = same ∙ s.lens;
       drops = drops ∙ ap (λ (l : List ℕ). l ++ slice_index f.inputs i ∷ []) s.drops ∙ sym (map-append at f.drops (i ∷ []));
       drops_within = all_append (λ j. j < length f.inputs) f.drops (i ∷ []) s.drops_within (within, tt);
+      named = s.named;
+      checks = subst (λ (l : List ℕ). AllByRecursion (IsSoundCheck ps f.inputs l) f.checks) (sym puts) s.checks;
+      unchecked = s.unchecked;
       put = λ q v e. elim (s.put q v e) [
         | inl old ↦ inl old
         | inr open_one ↦ inr (open_one.0, subst (λ (l : List ℕ). IsAmong l q) (sym puts) open_one.1)
       ];
     }
 
-pub sound_put : (f : Facts) (q : List ℕ) (p : PlannedPromise) (a : ℕ) (when : Option ℕ) → AreSound f → f.count ≡ length f.nodes → IsDeclaredAs f.promises q p → p.putter ≡ None
-    → IsSoundStep (promise_lens f.promises) (lens_of f.locals) (steps.Put (promise_number f.promises q) a when)
+-- a promise that is a scope's own is not one that is not
+not_own : (q : List ℕ) (p x : PlannedPromise) (j : ℕ) (ps : List PlannedPromise) (i : ℕ) → IsDistinct bytes_eq (map (λ (y : PlannedPromise). y.name) ps) → slice_get ps i ≡ Some p → q ≡ p.name → slice_get ps j ≡ Some x → p.scope ≡ false → x.scope ≡ true → bytes_eq q x.name ≡ false
+not_own q p x j ps i distinct here named at unscoped scope = step (bytes_eq q x.name) refl
+  where
+    step : (b : Bool) → bytes_eq q x.name ≡ b → b ≡ false
+    step false e = refl
+    step true e =
+        let place : i ≡ j = one_place ps i j p x distinct here at (sym named ∙ same_name q x.name e) in
+        let one : p ≡ x = same_Some p x (sym here ∙ ap (λ (k : ℕ). slice_get ps k) place ∙ at) in
+        absurd (false≢true (sym unscoped ∙ ap (λ (y : PlannedPromise). y.scope) one ∙ scope))
+
+pub sound_put : (f : Facts) (q : List ℕ) (p : PlannedPromise) (a : ℕ) (when : Option ℕ) → AreSound f → f.count ≡ length f.nodes → IsDeclaredAs f.promises q p → p.putter ≡ None → p.scope ≡ false
+    → IsSoundStep [] (promise_lens f.promises) (lens_of f.locals) (steps.Put (promise_number f.promises q) a when)
     → AreSound (record f { promises = map (given (putting q f.count)) f.promises; steps = f.steps ++ steps.Put (promise_number f.promises q) a when ∷ [] })
-sound_put f q p a when s counted d none sound =
+sound_put f q p a when s counted d none unscoped sound =
     let ps : List PlannedPromise = f.promises in
     let t : Putting = putting q f.count in
     let qs : List PlannedPromise = map (given t) ps in
@@ -180,18 +210,22 @@ sound_put f q p a when s counted d none sound =
     record {
       promise_names = subst (λ (l : List (List ℕ)). AreNamed l f.names) (sym names) s.promise_names;
       node_names = s.node_names;
-      task_names = s.task_names;
-      promises = all_given IsSoundPromise (λ x o h. record { name = h.name; len = h.len; unscoped = h.unscoped }) t ps s.promises;
+      blocks = blocks_kept f.nodes ps qs f.blocks (λ j x at among scope. given_other t ps j x at (not_own q p x j ps i s.promise_names.once d.at (sym d.named) at unscoped scope)) s.blocks;
+      promises = all_given IsSoundPromise (λ x o h. record { name = h.name; len = h.len }) t ps s.promises;
       few = let h : length qs ≡ length ps = simp length-map in rw h s.few;
       total = subst (λ (n : ℕ). n ≤ 16777216) (ap sum (sym lens)) s.total;
       shown = subst (λ (n : ℕ). n ≤ 1048576) (ap sum (sym (stays_given shown_by (λ x o. refl) t ps))) s.shown;
       ended = λ u node at. node_grown ps qs u node grows (s.ended u node at);
+      enclosed = s.enclosed;
+      scopes = λ k x at scope none. let (y, old, is, unput) = unput_given t ps k x at none in
+          subst (λ (z : PlannedPromise). is_among z.name (scope_names f.blocks) ≡ true) (sym is) (s.scopes k y old (ap (λ (z : PlannedPromise). z.scope) (sym is) ∙ scope) unput);
       task = record {
         awaited = task.awaited;
         awaits_once = task.awaits_once;
-        sound = sound_push qs v f.inputs f.steps (lens_of f.locals) step task here (subst (λ (l : List ℕ). IsSoundStep l (lens_of f.locals) step) (sym lens) sound);
+        sound = sound_push qs v f.inputs f.steps (lens_of f.locals) step task here (subst (λ (l : List ℕ). IsSoundStep [] l (lens_of f.locals) step) (sym lens) sound);
         own = subst (AllByRecursion (λ k. putter_of qs k ≡ Some v)) (sym puts) (all_append (λ k. putter_of qs k ≡ Some v) (promises_put f.steps) (i ∷ []) task.own (after, tt));
         once = subst (IsDistinct nat_eq) (sym puts) (distinct_push (promises_put f.steps) i task.once apart);
+        unscoped = subst (AllByRecursion (λ k. scope_of qs k ≡ Some false)) (sym puts) (all_append (λ k. scope_of qs k ≡ Some false) (promises_put f.steps) (i ∷ []) task.unscoped (grows.scopes i false (scope_at ps i p d.at ∙ ap Some unscoped), tt));
         dropped = subst (AllByRecursion (IsAmong f.inputs)) (sym drops) task.dropped;
         drops_once = subst (IsDistinct nat_eq) (sym drops) task.drops_once;
         short = subst (AllByRecursion IsShort) (sym same) task.short;
@@ -199,6 +233,10 @@ sound_put f q p a when s counted d none sound =
       lens = same ∙ here;
       drops = drops ∙ s.drops;
       drops_within = s.drops_within;
+      named = locals_named_grown ps qs v f.inputs f.locals grows s.task.awaited s.named;
+      checks = subst (λ (l : List ℕ). AllByRecursion (IsSoundCheck qs f.inputs l) f.checks) (sym puts)
+          (all_map f.checks (λ c h. let g = check_grown ps qs v f.inputs (promises_put f.steps) c grows s.task.awaited s.task.own h in record { put = among_more (promises_put f.steps) (i ∷ []) c.promise g.put; fits = g.fits }) s.checks);
+      unchecked = s.unchecked;
       put = λ k u e. elim (put_split t ps k u e) [
         | inl old ↦ elim (s.put k u old) [
           | inl ended ↦ inl ended
@@ -209,3 +247,26 @@ sound_put f q p a when s counted d none sound =
             inr (sym new.3 ∙ counted, subst (λ (l : List ℕ). IsAmong l k) (sym puts) (subst (λ (m : ℕ). IsAmong (promises_put f.steps ++ i ∷ []) m) place (among_last (promises_put f.steps) i)))
       ];
     }
+
+-- one more check, of a task that may have checks
+pub sound_check : (f : Facts) (c : KeptCheck) → AreSound f → may_check f.scheme ≡ true → IsSoundCheck f.promises f.inputs (promises_put f.steps) c → AreSound (record f { checks = f.checks ++ c ∷ [] })
+sound_check f c s may sound = record {
+  promise_names = s.promise_names;
+  node_names = s.node_names;
+  blocks = s.blocks;
+  promises = s.promises;
+  few = s.few;
+  total = s.total;
+  shown = s.shown;
+  ended = s.ended;
+  enclosed = s.enclosed;
+  scopes = s.scopes;
+  task = s.task;
+  lens = s.lens;
+  drops = s.drops;
+  drops_within = s.drops_within;
+  named = s.named;
+  checks = all_append (IsSoundCheck f.promises f.inputs (promises_put f.steps)) f.checks (c ∷ []) s.checks (sound, tt);
+  unchecked = λ none. absurd (true≢false (sym may ∙ none));
+  put = s.put;
+}

@@ -1,5 +1,5 @@
 -- A promise that is declared, by its name and by its number.
-use Rattle.std.proofs.Common.{◌≡◌, ℕ, zero, suc, ◌<◌, List, [], ◌∷◌, true, false, Option, Some, None, length, map, get_or, slice_index, refl, arith, ap, sym, ◌∙◌, subst}
+use Rattle.std.proofs.Common.{◌≡◌, ℕ, zero, suc, ◌<◌, List, [], ◌∷◌, Bool, true, false, Option, Some, None, length, map, get_or, slice_index, refl, arith, ap, sym, ◌∙◌, subst}
 use Rattle.std.specs.Prelude.{slice_get, option_and_then, is_some, unwrap_or}
 use Rattle.std.specs.List.{AllByRecursion, IsDistinct}
 use Rattle.std.specs.Option.{option_map}
@@ -12,6 +12,7 @@ use Rattle.std.proofs.lemmas.Map.Keys.{IsDistinct-head, IsDistinct-tail}
 use Rattle.rh_rules.specs.declared.node.PlannedPromise.{PlannedPromise}
 use Rattle.rh_rules.specs.Tables.{promise_at, promise_named, is_promise, promise_number, promise_len, is_put, is_own, if_any, declared_promise}
 use Rattle.rh_rules.specs.Lawful.{promise_lens, putter_of}
+use Rattle.rh_planner.proofs.SoundTasks.{scope_of}
 
 pub some_of : {X : Type 0} (o : Option X) → is_some o ≡ true → (x : X) × (o ≡ Some x)
 some_of None e = absurd (false≢true e)
@@ -50,6 +51,15 @@ putter_parts (p ∷ ps) (suc q) u e = putter_parts ps q u e
 
 pub putter_at : (ps : List PlannedPromise) (q : ℕ) (p : PlannedPromise) → slice_get ps q ≡ Some p → putter_of ps q ≡ p.putter
 putter_at ps q p e = ap (λ (o : Option PlannedPromise). option_and_then (λ x. x.putter) o) e
+
+-- what is known of a promise at its place
+pub scope_at : (ps : List PlannedPromise) (q : ℕ) (p : PlannedPromise) → slice_get ps q ≡ Some p → scope_of ps q ≡ Some p.scope
+scope_at ps q p e = ap (λ (o : Option PlannedPromise). option_and_then (λ x. Some x.scope) o) e
+
+pub scope_parts : (ps : List PlannedPromise) (q : ℕ) (b : Bool) → scope_of ps q ≡ Some b → (p : PlannedPromise) × (slice_get ps q ≡ Some p) × (p.scope ≡ b)
+scope_parts [] q b e = absurd (none-some b e)
+scope_parts (p ∷ ps) zero b e = (p, refl, same_Some p.scope b e)
+scope_parts (p ∷ ps) (suc q) b e = scope_parts ps q b e
 
 pub same_name : (a b : List ℕ) → bytes_eq a b ≡ true → a ≡ b
 same_name a b h = (bytes_eq-Decides a b).0 h

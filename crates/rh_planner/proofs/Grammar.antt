@@ -69,4 +69,9 @@ within above (text.LetStencil1 x a m r k s) l = at_most s 63 (limits_kept above 
 within above (text.LetStencil2 x north south west east m cols k s) l =
     let both : (nat_lt 0 cols && nat_le s 63) ≡ true = limits_kept above (text.LetStencil2 x north south west east m cols k s) l.limited in
     (below 0 cols (first_true (nat_lt 0 cols) (nat_le s 63) both), at_most s 63 (second_true (nat_lt 0 cols) (nat_le s 63) both))
+within above (text.CheckConserve promise a m r k s) l = at_most s 63 (limits_kept above (text.CheckConserve promise a m r k s) l.limited)
+within above (text.CheckConserve2 promise north south west east m cols k s) l =
+    let both : (nat_lt 0 cols && nat_le s 63) ≡ true = limits_kept above (text.CheckConserve2 promise north south west east m cols k s) l.limited in
+    (below 0 cols (first_true (nat_lt 0 cols) (nat_le s 63) both), at_most s 63 (second_true (nat_lt 0 cols) (nat_le s 63) both))
+within above (text.CheckLinear promise base inputs factors) l = (at_most (length inputs) 16 (limits_kept above (text.CheckLinear promise base inputs factors) l.limited), l.whole.1)
 within above s l = tt

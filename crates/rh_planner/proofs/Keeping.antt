@@ -5,7 +5,7 @@ use Rattle.rh_words.specs.declared.reason.Reason.{Reason}
 use Rattle.rh_task_text.specs.declared.statement.Statement.{Statement}
 use Rattle.rh_rules.specs.Facets.{facets}
 use Rattle.rh_rules.specs.Above.{Look, Facts}
-use Rattle.rh_rules.specs.Rules.{reason_in, is_twice, is_unknown, is_early, is_owned, is_misfit, is_misschemed, is_after_drop, is_over}
+use Rattle.rh_rules.specs.Rules.{reason_in, is_twice, is_unknown, is_early, is_owned, is_misfit, is_misschemed, is_after_drop, is_over, is_unanswered}
 use Rattle.rh_planner.proofs.Using.{not_false}
 
 -- the statement breaks no rule, rule by rule
@@ -19,6 +19,7 @@ pub record Keeps (look : Look) (f : Facts) (s : Statement) : Type 0 where
   pub schemed : is_misschemed f s ≡ false
   pub held : is_after_drop f s ≡ false
   pub within : is_over f s ≡ false
+  pub answered : is_unanswered look.handed s ≡ false
 
 -- where a choice of a reason is none, its test is false and the rest is none
 no_reason : (t : Bool) (r : Reason) (rest : Option Reason) → cond t (Some r) rest ≡ None → (t ≡ false) × (rest ≡ None)
@@ -36,4 +37,5 @@ keeps look f s e =
     let (schemed, e7) = no_reason (is_misschemed f s) _ _ e6 in
     let (held, e8) = no_reason (is_after_drop f s) _ _ e7 in
     let (within, e9) = no_reason (is_over f s) _ _ e8 in
-    record { built = not_false (facets s).built built; once = once; known = known; in_order = in_order; unowned = unowned; fitting = fitting; schemed = schemed; held = held; within = within }
+    let (answered, e10) = no_reason (is_unanswered look.handed s) _ _ e9 in
+    record { built = not_false (facets s).built built; once = once; known = known; in_order = in_order; unowned = unowned; fitting = fitting; schemed = schemed; held = held; within = within; answered = answered }

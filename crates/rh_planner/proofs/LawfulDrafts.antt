@@ -1,65 +1,89 @@
 -- What is planned of a lawful text whose lines keep the rules is lawful.
-use Rattle.std.proofs.Common.{◌≡◌, ℕ, ◌+◌, ◌≤◌, List, [], ◌∷◌, ◌++◌, Option, Some, None, length, map, refl, arith, ap, sym, ◌∙◌, subst, inl, inr, append-nil}
-use Rattle.std.specs.Prelude.{slice_get, IsSomeAnd, option_and_then}
-use Rattle.std.specs.List.{IsDistinct}
+use Rattle.std.proofs.Common.{◌≡◌, ℕ, suc, ◌+◌, ◌-◌, ◌≤◌, List, [], ◌∷◌, ◌++◌, Bool, true, false, Option, Some, None, length, map, refl, arith, ap, sym, ◌∙◌, subst, ◌⊎◌, inl, inr, append-nil}
+use Rattle.std.specs.Prelude.{slice_get, IsSomeAnd, option_and_then, nat_eq, ◌||◌}
+use Rattle.std.specs.List.{AllByRecursion, IsDistinct}
 use Rattle.std.specs.Str.{bytes_eq}
-use Rattle.std.proofs.lemmas.Bool.{false≢true}
-use Rattle.std.proofs.lemmas.Option.{none-some}
+use Rattle.std.proofs.lemmas.Bool.{false≢true, true≢false}
+use Rattle.std.proofs.lemmas.Bool.Decides.{eqb_tells}
+use Rattle.std.proofs.lemmas.Option.{none-some, same_Some}
 use Rattle.rh_task_text.specs.declared.statement.Statement.{Statement}
 use Rattle.rh_task_text.specs.declared.statement.SchemeText.TheVariants.{Plain}
+use Rattle.rh_rules.specs.declared.node.Scheme.TheVariants.{Plain}
+use Rattle.rh_rules.specs.declared.node.Scheme.{Scheme}
+use Rattle.rh_rules.specs.declared.node.Scheme.TheVariants as schemes
 use Rattle.rh_task_text.specs.declared.form.Block.{Block}
 use Rattle.rh_task_text.specs.Blocks.{open_blocks}
 use Rattle.rh_task_text.specs.Program.{ProgramText, IsLawfulText, AllStand, upward}
 use Rattle.rh_rules.specs.declared.body.Step.{Step}
 use Rattle.rh_rules.specs.declared.node.Node.{Node}
 use Rattle.rh_rules.specs.declared.node.Kind.TheVariants as kinds
+use Rattle.rh_rules.specs.declared.node.Scheme.TheVariants as schemes
 use Rattle.rh_rules.specs.declared.node.PlannedPromise.{PlannedPromise}
+use Rattle.rh_rules.specs.Tables.{is_among, is_in}
 use Rattle.rh_rules.specs.Bodies.{promises_put}
-use Rattle.rh_rules.specs.Rules.{AllKeep}
-use Rattle.rh_rules.specs.Above.{OpenBlock, Facts, facts_above, nodes_above, promises_above, task_node}
-use Rattle.rh_rules.specs.Lawful.{AreLawful, IsLawfulNode, IsLawfulPromise, IsAmong}
-use Rattle.rh_planner.specs.Planned.{look_above, IsDraftOf, ArePlain}
-use Rattle.rh_planner.specs.Sound.{AreBlocks, none_open, task_open, IsIdle, IsIdleIn, AreCounted}
+use Rattle.rh_rules.specs.Rules.{AllKeep, may_check}
+use Rattle.rh_rules.specs.declared.block.OpenBlock.{OpenBlock}
+use Rattle.rh_rules.specs.Above.{Facts, facts_above, nodes_above, promises_above, task_node, group_node, scope_node}
+use Rattle.rh_rules.specs.Lawful.{AreLawful, IsLawfulNode, IsLawfulPromise, IsEnclosedBelow, IsAmong, IsLawfulScheme}
+use Rattle.rh_planner.specs.Planned.{look_above, IsDraftOf}
+use Rattle.rh_planner.specs.Sound.{IsIdle, IsIdleIn, nodes_open, AreCounted, AreBlocks, none_open, task_open, IsPlannedScheme}
+use Rattle.rh_planner.proofs.OpenBlocks.{none_closed}
+use Rattle.rh_planner.proofs.Members.{members_below, members_once}
+use Rattle.rh_planner.proofs.DeclaredPromises.{all_at, putter_at, scope_at}
+use Rattle.rh_check.specs.Users.{HandedChecks, ArePaired}
 use Rattle.rh_planner.proofs.Wholes.{facts_next}
 use Rattle.rh_planner.proofs.Counting.{counted}
-use Rattle.rh_planner.proofs.SoundTasks.{some_parts, all_map}
-use Rattle.rh_planner.proofs.SoundFacts.{AreSound, IsSoundPromise, IsTaskNode, block_names, idle_task, no_names}
+use Rattle.rh_planner.proofs.SoundTasks.{scope_of, some_is, some_parts, all_map}
+use Rattle.rh_planner.proofs.SoundFacts.{AreSound, IsSoundPromise, IsSoundNode, a_task, a_group, a_scope, IsTaskNode, IsGroupNode, IsScopeNode, block_names, scope_names, idle_task, no_names, no_numbers, distinct_push}
+use Rattle.rh_planner.proofs.LocalNames.{no_locals}
 use Rattle.rh_planner.proofs.SoundLines.{sound_next}
 
-nothing_above : AreSound (facts_above look_above [])
-nothing_above = record {
+nothing_above : (handed : HandedChecks) → AreSound (facts_above (look_above handed) [])
+nothing_above handed = record {
   promise_names = record { once = no_names; there = tt };
   node_names = record { once = no_names; there = tt };
-  task_names = tt;
+  blocks = tt;
   promises = tt;
   few = omega arith;
   total = omega arith;
   shown = omega arith;
   ended = λ v node at. absurd (none-some node at);
+  enclosed = λ v node at. absurd (none-some node at);
   task = idle_task [] 0;
   lens = refl;
   drops = refl;
   drops_within = tt;
+  named = no_locals [];
+  checks = tt;
+  unchecked = λ none. refl;
   put = λ q v e. absurd (none-some v e);
+  scopes = λ q p at scope none. absurd (none-some p at);
 }
 
 -- the facts above each line of a lawful text whose lines keep the rules
-sound_facts : (above : List Statement) → AllStand above → AllKeep look_above above → AreSound (facts_above look_above above)
-sound_facts [] stand kept = nothing_above
-sound_facts (s ∷ above) stand kept =
-    let before = sound_facts above stand.1 kept.1 in
-    subst AreSound (sym (facts_next look_above above s)) (sound_next above (facts_above look_above above) s (counted above stand.1 kept.1) before stand.1 stand.0 kept.0)
+pub sound_facts : (handed : HandedChecks) → ArePaired handed → (above : List Statement) → AllStand above → AllKeep (look_above handed) above → AreSound (facts_above (look_above handed) above)
+sound_facts handed paired [] stand kept = nothing_above handed
+sound_facts handed paired (s ∷ above) stand kept =
+    let before = sound_facts handed paired above stand.1 kept.1 in
+    subst AreSound (sym (facts_next (look_above handed) above s)) (sound_next handed paired above (facts_above (look_above handed) above) s (counted handed above stand.1 kept.1) before stand.1 stand.0 kept.0)
 
-lawful_node : (ps : List PlannedPromise) (ns : List Node) (v : ℕ) (node : Node) → IsTaskNode ps v node → IsLawfulNode ps ns v node
-lawful_node ps ns v node h =
-    let same : Node = task_node node.name Plain node.awaits None node.body in
-    let lawful : IsLawfulNode ps ns v same = record {
+lawful_scheme : (node : Node) (scheme : Scheme) → IsPlannedScheme scheme → (may_check scheme ≡ false → node.checks ≡ []) → IsLawfulScheme node scheme
+lawful_scheme node schemes.Plain planned unchecked = unchecked refl
+lawful_scheme node schemes.Replicate planned unchecked = unchecked refl
+lawful_scheme node (schemes.Replay limit) planned unchecked = planned
+lawful_scheme node schemes.Abft planned unchecked = absurd planned
+
+-- what is said of each node beside its kind
+lawful_task : (ps : List PlannedPromise) (ns : List Node) (v : ℕ) (node : Node) → IsEnclosedBelow ns v node.group → IsTaskNode ps v node → IsLawfulNode [] ps ns v node
+lawful_task ps ns v node enclosed h =
+    let same : Node = task_node node.name node.scheme node.awaits node.lets node.group node.body node.checks in
+    let lawful : IsLawfulNode [] ps ns v same = record {
       name = h.name;
       awaited = h.task.awaited;
       awaits_once = h.task.awaits_once;
       few_awaits = h.few;
-      few_checks = omega arith;
-      enclosed = tt;
+      few_checks = h.few_checks;
+      enclosed = enclosed;
       members = tt;
       own = h.task.own;
       once = h.task.once;
@@ -70,43 +94,145 @@ lawful_node ps ns v node h =
         drops_once = h.task.drops_once;
         few_locals = h.few_locals;
         short_locals = h.task.short;
-        checks = tt;
-        scheme = refl;
+        checks = all_map node.checks (λ c sound. record { put = sound.put; fits = sound.fits }) h.checks;
+        scheme = lawful_scheme same node.scheme h.planned h.unchecked;
+        all_named = h.all_named;
+        lets_named = h.lets_named;
+        names_once = h.names_once;
       };
     } in
-    subst (IsLawfulNode ps ns v) (sym h.is) lawful
+    subst (IsLawfulNode [] ps ns v) (sym h.is) lawful
 
--- no node is a scope
-no_scope : (ps : List PlannedPromise) (ns : List Node) (o : Option ℕ) → ((v : ℕ) (node : Node) → slice_get ns v ≡ Some node → IsTaskNode ps v node) → IsSomeAnd (option_and_then (λ v. slice_get ns v) o) (λ node. node.kind ≡ kinds.Scope) → ⊥
-no_scope ps ns None ended h = h
-no_scope ps ns (Some v) ended h =
-    let (node, at, kind) = some_parts (λ (node : Node). node.kind ≡ kinds.Scope) (slice_get ns v) h in
-    let task : node.kind ≡ kinds.Task = ap (λ (n : Node). n.kind) (ended v node at).is in
-    let never : kinds.Task ≡ kinds.Scope = sym task ∙ kind in
-    cc
+lawful_group : (ps : List PlannedPromise) (ns : List Node) (v : ℕ) (node : Node) → IsEnclosedBelow ns v node.group → IsGroupNode ps v node → IsLawfulNode [] ps ns v node
+lawful_group ps ns v node enclosed h =
+    let same : Node = group_node node.name node.awaits node.group in
+    let lawful : IsLawfulNode [] ps ns v same = record {
+      name = h.name;
+      awaited = h.awaited;
+      awaits_once = h.awaits_once;
+      few_awaits = h.few;
+      few_checks = omega arith;
+      enclosed = enclosed;
+      members = tt;
+      own = tt;
+      once = no_numbers;
+      kind = (refl, refl);
+    } in
+    subst (IsLawfulNode [] ps ns v) (sym h.is) lawful
 
-lawful_promise : (ps : List PlannedPromise) (ns : List Node) (p : PlannedPromise) → ((v : ℕ) (node : Node) → slice_get ns v ≡ Some node → IsTaskNode ps v node) → IsSoundPromise p → IsLawfulPromise ns p
-lawful_promise ps ns p ended h = record {
-  name = h.name;
-  len = h.len;
-  scope = (λ scope. absurd (false≢true (sym h.unscoped ∙ scope)), λ some. absurd (no_scope ps ns p.putter ended some));
-}
+lawful_scope : (ps : List PlannedPromise) (ns : List Node) (v : ℕ) (node : Node) → IsEnclosedBelow ns v node.group → IsScopeNode ps v node → IsLawfulNode [] ps ns v node
+lawful_scope ps ns v node enclosed h =
+    let same : Node = scope_node node.name h.own node.group h.first v in
+    let lawful : IsLawfulNode [] ps ns v same = record {
+      name = h.name;
+      awaited = tt;
+      awaits_once = no_numbers;
+      few_awaits = omega arith;
+      few_checks = omega arith;
+      enclosed = enclosed;
+      members = members_below h.first v;
+      own = (h.put, tt);
+      once = distinct_push [] h.own no_numbers tt;
+      kind = record { body = refl; awaits = refl; own = (h.own, refl, h.len); members_once = members_once h.first (v - h.first) };
+    } in
+    subst (IsLawfulNode [] ps ns v) (sym h.is) lawful
 
-closed_blocks : (bs : List Block) (obs : List OpenBlock) → AreBlocks bs obs → bs ≡ [] → obs ≡ []
-closed_blocks bs obs none_open e = refl
-closed_blocks bs obs (task_open name) e = cc
+lawful_node : (ps : List PlannedPromise) (ns : List Node) (v : ℕ) (node : Node) → IsEnclosedBelow ns v node.group → IsSoundNode ps v node → IsLawfulNode [] ps ns v node
+lawful_node ps ns v node enclosed (a_task h) = lawful_task ps ns v node enclosed h
+lawful_node ps ns v node enclosed (a_group h) = lawful_group ps ns v node enclosed h
+lawful_node ps ns v node enclosed (a_scope h) = lawful_scope ps ns v node enclosed h
+
+among_all : (P : ℕ → Type 0) (ns : List ℕ) (q : ℕ) → AllByRecursion P ns → IsAmong ns q → P q
+among_all P [] q all e = absurd (false≢true e)
+among_all P (n ∷ ns) q all e = elim (eqb_tells n q) [
+  | inl same ↦ subst P same.1 all.0
+  | inr other ↦ among_all P ns q all.1 (left (nat_eq n q) (is_in q ns) other.0 e)
+]
+  where
+    left : (a b : Bool) → a ≡ false → (a || b) ≡ true → b ≡ true
+    left true b h e = absurd (true≢false h)
+    left false b h e = e
+
+-- what a node puts is a scope's own promise exactly where it is a scope
+puts_own : (ps : List PlannedPromise) (v : ℕ) (node : Node) (q : ℕ) → IsSoundNode ps v node → IsAmong node.puts q → ((node.kind ≡ kinds.Scope) × (scope_of ps q ≡ Some true)) ⊎ ((node.kind ≡ kinds.Task) × (scope_of ps q ≡ Some false))
+puts_own ps v node q (a_task h) among =
+    inr (ap (λ (n : Node). n.kind) h.is, among_all (λ k. scope_of ps k ≡ Some false) (promises_put node.body) q h.task.unscoped (subst (λ (n : Node). IsAmong n.puts q) h.is among))
+puts_own ps v node q (a_group h) among = absurd (false≢true (subst (λ (n : Node). IsAmong n.puts q) h.is among))
+puts_own ps v node q (a_scope h) among =
+    inl (ap (λ (n : Node). n.kind) h.is, among_all (λ k. scope_of ps k ≡ Some true) (h.own ∷ []) q (h.scope, tt) (subst (λ (n : Node). IsAmong n.puts q) h.is among))
+
+of_some : (a b : Bool) → Some a ≡ Some b → a ≡ b
+of_some a b e = same_Some a b e
+
+-- the node that puts a promise, at the end of a text
+putter_node : (f : Facts) (q v : ℕ) (p : PlannedPromise) → AreSound f → f.steps ≡ [] → slice_get f.promises q ≡ Some p → p.putter ≡ Some v
+    → (node : Node) × (slice_get f.nodes v ≡ Some node) × (((node.kind ≡ kinds.Scope) × (p.scope ≡ true)) ⊎ ((node.kind ≡ kinds.Task) × (p.scope ≡ false)))
+putter_node f q v p s idle at put = elim (s.put q v (putter_at f.promises q p at ∙ put)) [
+  | inl ended ↦
+      let (node, here, among) = some_parts (λ (n : Node). IsAmong n.puts q) (slice_get f.nodes v) ended in
+      let is = scope_at f.promises q p at in (
+        node,
+        here,
+        elim (puts_own f.promises v node q (s.ended v node here) among) [
+          | inl scope ↦ inl (scope.0, of_some p.scope true (sym is ∙ scope.1))
+          | inr task ↦ inr (task.0, of_some p.scope false (sym is ∙ task.1))
+        ],
+      )
+  | inr open_one ↦ absurd (false≢true (subst (λ (l : List Step). IsAmong (promises_put l) q) idle open_one.1))
+]
+
+-- some node is that of a scope
+IsScopeAt : List Node → Option ℕ → Type 0
+IsScopeAt ns o = IsSomeAnd (option_and_then (λ v. slice_get ns v) o) (λ node. node.kind ≡ kinds.Scope)
+
+own_scope : (f : Facts) (q : ℕ) (p : PlannedPromise) (o : Option ℕ) → p.putter ≡ o → AreSound f → f.steps ≡ [] → f.blocks ≡ [] → slice_get f.promises q ≡ Some p → p.scope ≡ true → IsScopeAt f.nodes o
+unfolding IsScopeAt
+own_scope f q p None put s idle free at scope = absurd (false≢true (subst (λ (l : List OpenBlock). is_among p.name (scope_names l) ≡ true) free (s.scopes q p at scope put)))
+own_scope f q p (Some v) put s idle free at scope =
+    let (node, here, by) = putter_node f q v p s idle at put in
+    elim by [
+      | inl is ↦ some_is (λ (n : Node). n.kind ≡ kinds.Scope) (slice_get f.nodes v) node here is.0
+      | inr is ↦ absurd (true≢false (sym scope ∙ is.1))
+    ]
+
+scope_own : (f : Facts) (q : ℕ) (p : PlannedPromise) (o : Option ℕ) → p.putter ≡ o → AreSound f → f.steps ≡ [] → slice_get f.promises q ≡ Some p → IsScopeAt f.nodes o → p.scope ≡ true
+unfolding IsScopeAt
+scope_own f q p None put s idle at h = absurd h
+scope_own f q p (Some v) put s idle at h =
+    let (scope, there, kind) = some_parts (λ (n : Node). n.kind ≡ kinds.Scope) (slice_get f.nodes v) h in
+    let (node, here, by) = putter_node f q v p s idle at put in
+    elim by [
+      | inl is ↦ is.1
+      | inr is ↦
+          let never : kinds.Task ≡ kinds.Scope = sym is.0 ∙ ap (λ (n : Node). n.kind) (same_Some node scope (sym here ∙ there)) ∙ kind in
+          cc
+    ]
+
+lawful_promise : (f : Facts) (q : ℕ) (p : PlannedPromise) → AreSound f → f.steps ≡ [] → f.blocks ≡ [] → slice_get f.promises q ≡ Some p → IsLawfulPromise f.nodes p
+unfolding IsScopeAt
+lawful_promise f q p s idle free at =
+    let h = all_at IsSoundPromise f.promises q p s.promises at in
+    record {
+      name = h.name;
+      len = h.len;
+      scope = (own_scope f q p p.putter refl s idle free at, scope_own f q p p.putter refl s idle at);
+    }
+
+all_placed : (P : PlannedPromise → Type 0) (ps : List PlannedPromise) → ((q : ℕ) (p : PlannedPromise) → slice_get ps q ≡ Some p → P p) → AllByRecursion P ps
+all_placed P [] h = tt
+all_placed P (p ∷ ps) h = (h 0 p refl, all_placed P ps (λ q x at. h (suc q) x at))
 
 -- facts that are sound, where no task is open, are lawful
-lawful_facts : (above : List Statement) (f : Facts) → AreCounted above f → AreSound f → open_blocks above ≡ [] → AreLawful f.nodes f.promises
+lawful_facts : (above : List Statement) (f : Facts) → AreCounted above f → AreSound f → open_blocks above ≡ [] → AreLawful [] f.nodes f.promises
 lawful_facts above f c s closed =
-    let free : f.blocks ≡ [] = closed_blocks (open_blocks above) f.blocks c.blocks closed in
+    let free : f.blocks ≡ [] = none_closed (open_blocks above) f.blocks c.blocks closed in
     let idle : IsIdle f = subst (λ (l : List OpenBlock). IsIdleIn l f) free c.idle in
     let names : List (List ℕ) = map (λ (node : Node). node.name) f.nodes in
     let counted : length f.nodes ≡ f.count = c.counted in
-    let room : f.count + length f.blocks ≤ 16384 = c.room in
+    let room : f.count + nodes_open f.blocks ≤ 16384 = c.room in
     record {
-      nodes = λ v node at. lawful_node f.promises f.nodes v node (s.ended v node at);
-      promises = all_map f.promises (λ p h. lawful_promise f.promises f.nodes p s.ended h) s.promises;
+      nodes = λ v node at. lawful_node f.promises f.nodes v node (s.enclosed v node at) (s.ended v node at);
+      promises = all_placed (IsLawfulPromise f.nodes) f.promises (λ q p at. lawful_promise f q p s idle.steps free at);
       put = λ q v e. elim (s.put q v e) [
         | inl ended ↦ ended
         | inr open_one ↦ absurd (false≢true (subst (λ (l : List Step). IsAmong (promises_put l) q) idle.steps open_one.1))
@@ -119,20 +245,11 @@ lawful_facts above f c s closed =
       shown = s.shown;
     }
 
-pub lawful_drafts : (text : ProgramText) → IsLawfulText text → AllKeep look_above (upward text.items) → AreLawful (nodes_above look_above (upward text.items)) (promises_above (upward text.items))
-lawful_drafts text lawful kept = lawful_facts (upward text.items) (facts_above look_above (upward text.items)) (counted (upward text.items) lawful.lawful kept) (sound_facts (upward text.items) lawful.lawful kept) lawful.closed
+pub lawful_drafts : (handed : HandedChecks) → ArePaired handed → (text : ProgramText) → IsLawfulText text → AllKeep (look_above handed) (upward text.items) → AreLawful [] (nodes_above (look_above handed) (upward text.items)) (promises_above (upward text.items))
+lawful_drafts handed paired text lawful kept = lawful_facts (upward text.items) (facts_above (look_above handed) (upward text.items)) (counted handed (upward text.items) lawful.lawful kept) (sound_facts handed paired (upward text.items) lawful.lawful kept) lawful.closed
 
 -- and so is what a text is planned as
-pub planned_lawful : (text : ProgramText) (ns : List Node) (ps : List PlannedPromise) → IsLawfulText text → IsDraftOf text ns ps → AreLawful ns ps
-planned_lawful text ns ps lawful planned =
-    subst (λ (l : List Node). AreLawful l ps) (sym planned.nodes)
-    (subst (AreLawful (nodes_above look_above (upward text.items))) (sym planned.promises) (lawful_drafts text lawful planned.kept))
-
--- each node of such a text is plain
-pub plain_nodes : (text : ProgramText) → IsLawfulText text → AllKeep look_above (upward text.items) → ArePlain (nodes_above look_above (upward text.items))
-plain_nodes text lawful kept v node at =
-    let is = ((sound_facts (upward text.items) lawful.lawful kept).ended v node at).is in
-    (ap (λ (n : Node). n.scheme) is, ap (λ (n : Node). n.checks) is)
-
-pub planned_plain : (text : ProgramText) (ns : List Node) (ps : List PlannedPromise) → IsLawfulText text → IsDraftOf text ns ps → ArePlain ns
-planned_plain text ns ps lawful planned = subst ArePlain (sym planned.nodes) (plain_nodes text lawful planned.kept)
+pub planned_lawful : (handed : HandedChecks) (text : ProgramText) (ns : List Node) (ps : List PlannedPromise) → ArePaired handed → IsLawfulText text → IsDraftOf handed text ns ps → AreLawful [] ns ps
+planned_lawful handed text ns ps paired lawful planned =
+    subst (λ (l : List Node). AreLawful [] l ps) (sym planned.nodes)
+    (subst (AreLawful [] (nodes_above (look_above handed) (upward text.items))) (sym planned.promises) (lawful_drafts handed paired text lawful planned.kept))

@@ -1,5 +1,5 @@
 -- What a `let` line adds to the facts above, and why it is refused.
-use Rattle.std.proofs.Common.{◌≡◌, ℕ, ◌+◌, List, [], ◌∷◌, ◌++◌, Option, Some, None, true, false, refl, arith, length, append-nil, Result, Ok, Err, sym, ap, ◌∙◌, subst}
+use Rattle.std.proofs.Common.{◌≡◌, ℕ, ◌+◌, List, [], ◌++◌, Option, Some, None, true, refl, arith, append-nil, Result, Ok, Err, sym, ap, ◌∙◌, subst}
 use Rattle.std.specs.Prelude.{IfOk, option_to_list}
 use Rattle.rh_words.specs.declared.reason.OutOfMemory.{OutOfMemory}
 use Rattle.rh_words.specs.declared.reason.Reason.{Reason}
@@ -34,6 +34,7 @@ pub stays : (f : Facts) (locals : List LocalName) (steps : List Step) → record
   drops = f.drops ++ [];
   steps = f.steps ++ steps;
   scheme = f.scheme;
+  checks = f.checks ++ [];
 } ≡ with_local f locals steps
 stays f locals steps = let none : f.count + 0 ≡ f.count = omega arith in simp (append-nil, none)
 
@@ -50,8 +51,8 @@ after_let look f (text.LetCut x a from len) y b e = stays f _ _
 after_let look f (text.LetJoin x parts) y b e = stays f _ _
 after_let look f (text.LetSum x a) y b e = stays f _ _
 after_let look f (text.LetCount x a) y b e = stays f _ _
-after_let look f (text.LetStencil1 x l m r k s) y b e = cc
-after_let look f (text.LetStencil2 x north south west east m cols k s) y b e = cc
+after_let look f (text.LetStencil1 x l m r k s) y b e = stays f _ _
+after_let look f (text.LetStencil2 x north south west east m cols k s) y b e = stays f _ _
 after_let look f (text.LetProduct x a v) y b e = cc
 after_let look f s y b e = absurd (none-some y e)
 
@@ -72,21 +73,21 @@ reason_let look f (text.LetCut x a from len) y b e = ap (λ z. let_reason f.loca
 reason_let look f (text.LetJoin x parts) y b e = ap (λ z. let_reason f.locals f.drops z (text.LetJoin x parts)) (named x y e)
 reason_let look f (text.LetSum x a) y b e = ap (λ z. let_reason f.locals f.drops z (text.LetSum x a)) (named x y e)
 reason_let look f (text.LetCount x a) y b e = ap (λ z. let_reason f.locals f.drops z (text.LetCount x a)) (named x y e)
-reason_let look f (text.LetStencil1 x l m r k s) y b e = cc
-reason_let look f (text.LetStencil2 x north south west east m cols k s) y b e = cc
+reason_let look f (text.LetStencil1 x l m r k s) y b e = ap (λ z. let_reason f.locals f.drops z (text.LetStencil1 x l m r k s)) (named x y e)
+reason_let look f (text.LetStencil2 x north south west east m cols k s) y b e = ap (λ z. let_reason f.locals f.drops z (text.LetStencil2 x north south west east m cols k s)) (named x y e)
 reason_let look f (text.LetProduct x a v) y b e = cc
 reason_let look f s y b e = absurd (none-some y e)
 
 -- a `let` that changes the open task alone is judged
 pub judges_let : (result : Result (Option Reason) OutOfMemory) (old : Planner) (task : OpenTask) (s : Statement) (x : List ℕ) → (facets s).built ≡ true → (facets s).made ≡ Some x
     → IfOk result (λ a. a ≡ let_reason old.task.locals.items old.task.drops.items x s)
-    → task.inputs ≡ old.task.inputs → task.drops.items ≡ old.task.drops.items
+    → task.inputs ≡ old.task.inputs → task.drops.items ≡ old.task.drops.items → task.scheme ≡ old.task.scheme → task.checks ≡ old.task.checks
     → IfOk result (λ a. a ≡ None → task.locals.items ≡ old.task.locals.items ++ local_made old.task.locals.items s)
     → IfOk result (λ a. a ≡ None → task.body ≡ old.task.body ++ option_to_list ((facets s).step (numbers_used old.task.locals.items s)))
     → IfOk result (λ a. Judges old s (record old { task = task }) a)
-judges_let (Ok a) old task s x built makes reason inputs drops locals steps = record {
-  reason = reason ∙ sym (reason_let look_above (facts_of old) s x built makes);
-  tables = λ none. subst (HasFacts (record old { task = task })) (sym (after_let look_above (facts_of old) s x built makes)) (record {
+judges_let (Ok a) old task s x built makes reason inputs drops scheme checks locals steps = record {
+  reason = reason ∙ sym (reason_let (look_above old.handed) (facts_of old) s x built makes);
+  tables = λ none. subst (HasFacts (record old { task = task })) (sym (after_let (look_above old.handed) (facts_of old) s x built makes)) (record {
     names = refl;
     promises = refl;
     blocks = refl;
@@ -96,7 +97,9 @@ judges_let (Ok a) old task s x built makes reason inputs drops locals steps = re
     locals = locals none;
     drops = drops;
     steps = steps none;
-    scheme = refl;
+    scheme = scheme;
+    checks = checks;
   });
+  handed = refl;
 }
-judges_let (Err e) old task s x built makes reason inputs drops locals steps = tt
+judges_let (Err e) old task s x built makes reason inputs drops scheme checks locals steps = tt

@@ -1,34 +1,45 @@
 -- A line that declares a promise, and an `end`, keep the facts sound.
-use Rattle.std.proofs.Common.{◌≡◌, ℕ, ◌+◌, ◌≤◌, List, [], ◌∷◌, ◌++◌, Bool, true, false, None, cond, not, length, map, sum, refl, arith, ap, sym, ◌∙◌, subst, inl, inr, append-nil, length-append}
+use Rattle.std.proofs.Common.{◌≡◌, ℕ, ◌+◌, ◌≤◌, List, [], ◌∷◌, ◌++◌, Bool, true, false, Some, None, cond, not, length, map, sum, refl, arith, ap, sym, ◌∙◌, subst, inl, inr, append_assoc, length-append}
 use Rattle.std.specs.Prelude.{slice_get, nat_le, nat_lt, ◌&&◌, ◌||◌}
-use Rattle.std.specs.List.{AllByRecursion}
+use Rattle.std.specs.List.{AllByRecursion, IsDistinct}
+use Rattle.std.specs.Str.{bytes_eq}
+use Rattle.std.proofs.lemmas.Bool.{false≢true, or_left, or_right}
 use Rattle.std.proofs.lemmas.Bool.Decides.{nat_tests}
 use Rattle.std.proofs.lemmas.Option.{none-some}
 use Rattle.std.proofs.lemmas.List.{map-append, length-map}
 use Rattle.std.proofs.lemmas.List.Sums.{sum-map, sum_by_push}
 use Rattle.rh_words.specs.Naming.{is_name}
 use Rattle.rh_task_text.specs.declared.statement.Statement.{Statement}
-use Rattle.rh_task_text.specs.declared.statement.SchemeText.{SchemeText}
-use Rattle.rh_task_text.specs.Blocks.{lets_here}
+use Rattle.rh_task_text.specs.Blocks.{lets_here, checks_here}
+use Rattle.rh_rules.specs.declared.body.Step.{Step}
 use Rattle.rh_rules.specs.declared.node.Node.{Node}
 use Rattle.rh_rules.specs.declared.node.PlannedPromise.{PlannedPromise}
 use Rattle.rh_rules.specs.Tables.{declared_promise, is_among, lens_of}
-use Rattle.rh_rules.specs.Lawful.{IsAmong}
-use Rattle.rh_rules.specs.Above.{Facts, TaskBlock, words_in, shown_in, task_node}
+use Rattle.rh_rules.specs.Bodies.{promises_put}
+use Rattle.rh_rules.specs.Lawful.{IsAmong, IsEnclosedBelow}
+use Rattle.rh_rules.specs.declared.block.OpenBlock.{OpenBlock}
+use Rattle.rh_rules.specs.declared.block.OpenBlock.TheVariants.{TaskBlock, GroupBlock, ScopeBlock}
+use Rattle.rh_rules.specs.Above.{Facts, words_in, shown_in, group_in, task_node, lets_of}
 use Rattle.rh_rules.specs.Rules.{is_promise_over}
 use Rattle.rh_planner.specs.Sound.{AreCounted}
-use Rattle.rh_planner.proofs.After.{with_promise, with_end}
+use Rattle.rh_planner.proofs.After.{with_promise, with_finish, with_closed, ended_task, with_end}
 use Rattle.rh_planner.proofs.Using.{neither}
-use Rattle.rh_planner.proofs.DeclaredPromises.{putter_parts, putter_at}
-use Rattle.rh_planner.proofs.SoundTasks.{IsShort, Grows, locals_grown, task_grown, all_append, some_and, some_is}
-use Rattle.rh_planner.proofs.SoundFacts.{AreNamed, AreSound, IsSoundPromise, IsTaskNode, block_names, named_kept, named_push, node_grown, idle_task, slice_get_append, slice_get_last, slice_get_push_cases}
+use Rattle.rh_planner.proofs.DeclaredPromises.{putter_parts, putter_at, scope_parts, scope_at, name_is}
+use Rattle.rh_planner.proofs.SoundChecks.{check_grown}
+use Rattle.rh_planner.proofs.SoundTasks.{IsShort, Grows, all_map, locals_grown, task_grown, all_append, some_and, some_is}
+use Rattle.rh_planner.proofs.SoundFacts.{AreNamed, AreSound, IsSoundPromise, IsSoundNode, a_task, IsTaskNode, IsSoundBlock, IsOpenScope, block_names, scope_names, named_kept, named_push, named_insert, node_grown, enclosed_grown, enclosed_next, blocks_grown, blocks_kept, idle_task, slice_get_append, slice_get_last, slice_get_push_cases}
+use Rattle.rh_planner.proofs.LocalNames.{no_locals, all_counted, locals_named_grown}
 
 declared_grows : (ps : List PlannedPromise) (p : PlannedPromise) → Grows ps (ps ++ p ∷ [])
 declared_grows ps p = record {
   putters = λ q u e.
       let (x, at, put) = putter_parts ps q u e in
       putter_at (ps ++ p ∷ []) q x (slice_get_append ps (p ∷ []) q x at) ∙ put;
+  scopes = λ q b e.
+      let (x, at, is) = scope_parts ps q b e in
+      scope_at (ps ++ p ∷ []) q x (slice_get_append ps (p ∷ []) q x at) ∙ ap Some is;
   lens = (p.len ∷ [], map-append (λ (x : PlannedPromise). x.len) ps (p ∷ []));
+  names = (p.name ∷ [], map-append (λ (x : PlannedPromise). x.name) ps (p ∷ []));
 }
 
 sum_push : (f : PlannedPromise → ℕ) (ps : List PlannedPromise) (p : PlannedPromise) → sum (map f (ps ++ p ∷ [])) ≡ sum (map f ps) + f p
@@ -46,70 +57,185 @@ limits ps p room =
     let shown : shown_in (ps ++ p ∷ []) ≡ shown_in ps + shown_by p = sum_push shown_by ps p in
     (grind (arith, nat_tests), grind (arith, nat_tests), grind (arith, nat_tests))
 
-pub sound_promise : (f : Facts) (name : List ℕ) (len : ℕ) (temp : Bool) → AreSound f → is_among name f.names ≡ false → is_promise_over f.promises (declared_promise name len temp false) ≡ false → is_name name ≡ true → IsShort len → AreSound (with_promise f name len temp)
-sound_promise f name len temp s fresh room named short =
-    let p : PlannedPromise = declared_promise name len temp false in
+-- one more promise, with these blocks open
+abbrev with_declared : Facts → PlannedPromise → List OpenBlock → Facts
+with_declared f p blocks = record f { names = f.names ++ p.name ∷ []; promises = f.promises ++ p ∷ []; blocks = blocks }
+
+-- Nothing puts the promise yet. It is that of an open scope where it is a scope's own, and these blocks have the open scopes.
+record IsDeclaring (f : Facts) (p : PlannedPromise) (blocks : List OpenBlock) : Type 0 where
+  fresh : is_among p.name f.names ≡ false
+  room : is_promise_over f.promises p ≡ false
+  named : is_name p.name ≡ true
+  short : IsShort p.len
+  unput : p.putter ≡ None
+  names : AreNamed (map (λ (node : Node). node.name) f.nodes ++ block_names blocks) (f.names ++ p.name ∷ [])
+  blocks_sound : AllByRecursion (IsSoundBlock f.nodes (f.promises ++ p ∷ [])) blocks
+  own : p.scope ≡ true → is_among p.name (scope_names blocks) ≡ true
+  others : (n : List ℕ) → is_among n (scope_names f.blocks) ≡ true → is_among n (scope_names blocks) ≡ true
+
+sound_declared : (f : Facts) (p : PlannedPromise) (blocks : List OpenBlock) → AreSound f → IsDeclaring f p blocks → AreSound (with_declared f p blocks)
+sound_declared f p blocks s d =
     let ps : List PlannedPromise = f.promises ++ p ∷ [] in
     let grows = declared_grows f.promises p in
-    let most = limits f.promises p room in
+    let most = limits f.promises p d.room in
     record {
-      promise_names = subst (λ (l : List (List ℕ)). AreNamed l (f.names ++ name ∷ [])) (sym (map-append (λ (x : PlannedPromise). x.name) f.promises (p ∷ []))) (named_push (map (λ (x : PlannedPromise). x.name) f.promises) f.names name s.promise_names fresh);
-      node_names = named_kept (map (λ (node : Node). node.name) f.nodes ++ block_names f.blocks) f.names name s.node_names;
-      task_names = s.task_names;
-      promises = all_append IsSoundPromise f.promises (p ∷ []) s.promises (record { name = named; len = short; unscoped = refl }, tt);
+      promise_names = subst (λ (l : List (List ℕ)). AreNamed l (f.names ++ p.name ∷ [])) (sym (map-append (λ (x : PlannedPromise). x.name) f.promises (p ∷ []))) (named_push (map (λ (x : PlannedPromise). x.name) f.promises) f.names p.name s.promise_names d.fresh);
+      node_names = d.names;
+      blocks = d.blocks_sound;
+      promises = all_append IsSoundPromise f.promises (p ∷ []) s.promises (record { name = d.named; len = d.short }, tt);
       few = most.0;
       total = most.1;
       shown = most.2;
       ended = λ v node at. node_grown f.promises ps v node grows (s.ended v node at);
+      enclosed = s.enclosed;
       task = task_grown f.promises ps (length f.nodes) f.inputs f.steps grows s.task;
       lens = locals_grown f.promises ps (length f.nodes) f.inputs f.steps grows s.task.awaited ∙ s.lens;
       drops = s.drops;
       drops_within = s.drops_within;
+      named = locals_named_grown f.promises ps (length f.nodes) f.inputs f.locals grows s.task.awaited s.named;
+      checks = all_map f.checks (λ c sound. check_grown f.promises ps (length f.nodes) f.inputs (promises_put f.steps) c grows s.task.awaited s.task.own sound) s.checks;
+      unchecked = s.unchecked;
       put = λ q v e.
           let (x, at, put) = putter_parts ps q v e in
           elim (slice_get_push_cases f.promises p q x at) [
             | inl old ↦ s.put q v (putter_at f.promises q x old ∙ put)
-            | inr new ↦ absurd (none-some v (ap (λ (y : PlannedPromise). y.putter) new.1 ∙ put))
+            | inr new ↦ absurd (none-some v (sym d.unput ∙ ap (λ (y : PlannedPromise). y.putter) new.1 ∙ put))
           ];
+      scopes = λ q x at scope none. elim (slice_get_push_cases f.promises p q x at) [
+        | inl old ↦ d.others x.name (s.scopes q x old scope none)
+        | inr new ↦ subst (λ (y : PlannedPromise). is_among y.name (scope_names blocks) ≡ true) new.1 (d.own (ap (λ (y : PlannedPromise). y.scope) new.1 ∙ scope))
+      ];
     }
 
-pub sound_end : (above : List Statement) (f : Facts) (name : List ℕ) → AreSound f → AreCounted above f → lets_here above ≤ 32 → f.blocks ≡ TaskBlock name ∷ [] → AreSound (with_end f name)
-sound_end above f name s c few block =
-    let n : Node = task_node name f.scheme f.inputs None f.steps in
-    let names = map (λ (node : Node). node.name) f.nodes in
-    let opened : block_names f.blocks ≡ name ∷ [] = ap block_names block in
-    let same : map (λ (node : Node). node.name) (f.nodes ++ n ∷ []) ++ [] ≡ names ++ block_names f.blocks =
-    append-nil (map (λ (node : Node). node.name) (f.nodes ++ n ∷ [])) ∙ map-append (λ (node : Node). node.name) f.nodes (n ∷ []) ∙ ap (λ (l : List (List ℕ)). names ++ l) (sym opened) in
-    let task_name : is_name name ≡ true = (subst (AllByRecursion (λ n. is_name n ≡ true)) opened s.task_names).0 in
+-- open blocks stay sound beside one more promise
+blocks_declared : (f : Facts) (p : PlannedPromise) → AreSound f → AllByRecursion (IsSoundBlock f.nodes (f.promises ++ p ∷ [])) f.blocks
+blocks_declared f p s = blocks_kept f.nodes f.promises (f.promises ++ p ∷ []) f.blocks (λ i x at among scope. slice_get_append f.promises (p ∷ []) i x at) s.blocks
+
+pub sound_promise : (f : Facts) (name : List ℕ) (len : ℕ) (temp : Bool) → AreSound f → is_among name f.names ≡ false → is_promise_over f.promises (declared_promise name len temp false) ≡ false → is_name name ≡ true → IsShort len → AreSound (with_promise f name len temp)
+sound_promise f name len temp s fresh room named short =
+    let p : PlannedPromise = declared_promise name len temp false in
+    sound_declared f p f.blocks s (record {
+      fresh = fresh;
+      room = room;
+      named = named;
+      short = short;
+      unput = refl;
+      names = named_kept (map (λ (node : Node). node.name) f.nodes ++ block_names f.blocks) f.names name s.node_names;
+      blocks_sound = blocks_declared f p s;
+      own = λ scope. absurd (false≢true scope);
+      others = λ n among. among;
+    })
+
+-- facts of which nothing is said of an open task, below an `end` and with these blocks left open
+pub sound_closed : (f : Facts) (outer : List OpenBlock) → AreSound f → f.steps ≡ [] → block_names f.blocks ≡ block_names outer → scope_names f.blocks ≡ scope_names outer → AllByRecursion (IsSoundBlock f.nodes f.promises) outer → AreSound (with_closed f outer)
+sound_closed f outer s idle names scopes blocks = record {
+  promise_names = s.promise_names;
+  node_names = subst (λ (l : List (List ℕ)). AreNamed (map (λ (node : Node). node.name) f.nodes ++ l) f.names) names s.node_names;
+  blocks = blocks;
+  promises = s.promises;
+  few = s.few;
+  total = s.total;
+  shown = s.shown;
+  ended = s.ended;
+  enclosed = s.enclosed;
+  task = idle_task f.promises (length f.nodes);
+  lens = refl;
+  drops = refl;
+  drops_within = tt;
+  checks = tt;
+  unchecked = λ h. refl;
+  named = no_locals f.promises;
+  put = λ q v e. elim (s.put q v e) [
+    | inl old ↦ inl old
+    | inr open_one ↦ absurd (false≢true (subst (λ (l : List Step). IsAmong (promises_put l) q) idle open_one.1))
+  ];
+  scopes = λ q p at scope none. subst (λ (l : List (List ℕ)). is_among p.name l ≡ true) scopes (s.scopes q p at scope none);
+}
+
+pub sound_finish : (f : Facts) (name : List ℕ) → AreSound f → f.steps ≡ [] → is_among name f.names ≡ false → is_promise_over f.promises (declared_promise name 3 false true) ≡ false → is_name name ≡ true → AreSound (with_finish f name)
+sound_finish f name s idle fresh room named =
+    let p : PlannedPromise = declared_promise name 3 false true in
+    let blocks : List OpenBlock = ScopeBlock name f.count ∷ f.blocks in
+    let own : IsOpenScope (f.promises ++ p ∷ []) name = record { named = named; at = length f.promises; own = p; there = slice_get_last f.promises p; is = refl; scope = refl; unput = refl; len = refl } in
+    let all : AllByRecursion (IsSoundBlock f.nodes (f.promises ++ p ∷ [])) blocks = (own, blocks_declared f p s) in
+    sound_closed (with_declared f p blocks) blocks (sound_declared f p blocks s (record {
+      fresh = fresh;
+      room = room;
+      named = named;
+      short = (omega arith, omega arith);
+      unput = refl;
+      names = named_insert (map (λ (node : Node). node.name) f.nodes) (block_names f.blocks) f.names name s.node_names fresh;
+      blocks_sound = all;
+      own = λ scope. or_left (bytes_eq name name) (is_among name (scope_names f.blocks)) (name_is name name refl);
+      others = λ n among. or_right (bytes_eq name n) (is_among n (scope_names f.blocks)) among;
+    })) idle refl refl all
+
+-- the names of the nodes and the open blocks, where the innermost block becomes a node
+pub names_ended : (f : Facts) (node : Node) (outer : List OpenBlock) → AreSound f → block_names f.blocks ≡ node.name ∷ block_names outer → AreNamed (map (λ (n : Node). n.name) (f.nodes ++ node ∷ []) ++ block_names outer) f.names
+names_ended f node outer s opened =
+    let names = map (λ (n : Node). n.name) f.nodes in
+    subst (λ (l : List (List ℕ)). AreNamed l f.names)
+    (ap (λ (l : List (List ℕ)). names ++ l) opened ∙ sym (append_assoc names (node.name ∷ []) (block_names outer)) ∙ ap (λ (l : List (List ℕ)). l ++ block_names outer) (sym (map-append (λ (n : Node). n.name) f.nodes (node ∷ []))))
+    s.node_names
+
+-- what encloses each node, with one more
+pub enclosed_more : (f : Facts) (node : Node) → AreSound f → node.group ≡ group_in f.blocks → (v : ℕ) (n : Node) → slice_get (f.nodes ++ node ∷ []) v ≡ Some n → IsEnclosedBelow (f.nodes ++ node ∷ []) v n.group
+enclosed_more f node s group v n at = elim (slice_get_push_cases f.nodes node v n at) [
+  | inl old ↦ enclosed_grown f.nodes (node ∷ []) v n.group (s.enclosed v n old)
+  | inr new ↦
+      let here : IsEnclosedBelow f.nodes (length f.nodes) node.group = subst (IsEnclosedBelow f.nodes (length f.nodes)) (sym group) (enclosed_next f.nodes f.promises f.blocks s.blocks) in
+      enclosed_grown f.nodes (node ∷ []) v n.group (subst (λ (m : Node). IsEnclosedBelow f.nodes v m.group) new.1 (subst (λ (k : ℕ). IsEnclosedBelow f.nodes k node.group) (sym new.0) here))
+]
+
+pub sound_end : (above : List Statement) (f : Facts) (name : List ℕ) (outer : List OpenBlock) → AreSound f → AreCounted above f → lets_here above ≤ 32 → checks_here above ≤ 16 → f.blocks ≡ TaskBlock name ∷ outer → AreSound (with_end f name outer)
+sound_end above f name outer s c few checks block =
+    let n : Node = ended_task f name outer in
+    let inner : AllByRecursion (IsSoundBlock f.nodes f.promises) (TaskBlock name ∷ outer) = subst (AllByRecursion (IsSoundBlock f.nodes f.promises)) block s.blocks in
     let inputs : length f.inputs ≤ 16 = c.inputs in
     let locals : length f.locals ≤ length f.inputs + lets_here above = c.locals in
     let mapped : length (lens_of f.locals) ≡ length f.locals = simp length-map in
+    let checked : length f.checks ≤ checks_here above = c.checks in
     let few_locals : length (lens_of f.locals) ≤ 48 = omega arith in
     let ended : IsTaskNode f.promises (length f.nodes) n = record {
-      name = task_name;
-      is = ap (λ (scheme : SchemeText). task_node name scheme f.inputs None f.steps) c.scheme;
+      name = inner.0;
+      is = refl;
       few = inputs;
       few_locals = subst (λ (l : List ℕ). length l ≤ 48) (sym s.lens) few_locals;
       task = s.task;
+      all_named = all_counted f.promises f.inputs f.locals s.named ∙ sym mapped ∙ ap length (sym s.lens);
+      lets_named = s.named.lets;
+      names_once = subst (IsDistinct bytes_eq) s.named.parts s.named.once;
+      few_checks = omega arith;
+      checks = s.checks;
+      planned = c.scheme;
+      unchecked = s.unchecked;
     } in
     record {
       promise_names = s.promise_names;
-      node_names = subst (λ (l : List (List ℕ)). AreNamed l f.names) (sym same) s.node_names;
-      task_names = tt;
+      node_names = names_ended f n outer s (ap block_names block);
+      blocks = blocks_grown f.nodes (n ∷ []) f.promises outer inner.1;
       promises = s.promises;
       few = s.few;
       total = s.total;
       shown = s.shown;
       ended = λ v node at. elim (slice_get_push_cases f.nodes n v node at) [
         | inl old ↦ s.ended v node old
-        | inr new ↦ subst (λ (m : Node). IsTaskNode f.promises v m) new.1 (subst (λ (k : ℕ). IsTaskNode f.promises k n) (sym new.0) ended)
+        | inr new ↦ subst (λ (m : Node). IsSoundNode f.promises v m) new.1 (subst (λ (k : ℕ). IsSoundNode f.promises k n) (sym new.0) (a_task ended))
       ];
+      enclosed = enclosed_more f n s (ap group_in (sym block));
       task = idle_task f.promises (length (f.nodes ++ n ∷ []));
       lens = refl;
       drops = refl;
       drops_within = tt;
+      named = no_locals f.promises;
+      checks = tt;
+      unchecked = λ none. refl;
       put = λ q v e. elim (s.put q v e) [
         | inl old ↦ inl (some_and (λ (node : Node). IsAmong node.puts q) (slice_get f.nodes v) (slice_get (f.nodes ++ n ∷ []) v) (λ node is. slice_get_append f.nodes (n ∷ []) v node is) old)
         | inr open_one ↦ inl (some_is (λ (node : Node). IsAmong node.puts q) (slice_get (f.nodes ++ n ∷ []) v) n (ap (λ (k : ℕ). slice_get (f.nodes ++ n ∷ []) k) open_one.0 ∙ slice_get_last f.nodes n) open_one.1)
       ];
+      scopes = λ q p at scope none. subst (λ (l : List (List ℕ)). is_among p.name l ≡ true) (ap scope_names block) (s.scopes q p at scope none);
     }
+
+pub sound_end_group : (f : Facts) (number : ℕ) (outer : List OpenBlock) → AreSound f → f.steps ≡ [] → f.blocks ≡ GroupBlock number ∷ outer → AreSound (with_closed f outer)
+sound_end_group f number outer s idle block = sound_closed f outer s idle (ap block_names block) (ap scope_names block) (subst (AllByRecursion (IsSoundBlock f.nodes f.promises)) block s.blocks).1

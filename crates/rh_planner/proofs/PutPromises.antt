@@ -3,12 +3,12 @@ use Rattle.std.proofs.Common.{◌≡◌, ℕ, List, [], ◌∷◌, Bool, true, f
 use Rattle.std.specs.Prelude.{slice_get}
 use Rattle.std.specs.Str.{bytes_eq}
 use Rattle.std.specs.List.{AllByRecursion}
-use Rattle.std.proofs.lemmas.Option.{same_Some}
+use Rattle.std.proofs.lemmas.Option.{none-some, same_Some}
 use Rattle.rh_rules.specs.declared.node.PlannedPromise.{PlannedPromise}
 use Rattle.rh_rules.specs.Tables.{Putting, or_else, given}
 use Rattle.rh_rules.specs.Lawful.{promise_lens, putter_of}
 use Rattle.rh_planner.proofs.SoundTasks.{Grows}
-use Rattle.rh_planner.proofs.DeclaredPromises.{mapped_at, mapped_from, putter_parts, putter_at}
+use Rattle.rh_planner.proofs.DeclaredPromises.{mapped_at, mapped_from, putter_parts, putter_at, scope_at, scope_parts}
 
 -- what does not speak of the putter stays
 pub stays_given : {Y : Type 0} (f : PlannedPromise → Y) → ((p : PlannedPromise) (o : Option ℕ) → f (record p { putter = o }) ≡ f p) → (t : Putting) (ps : List PlannedPromise) → map f (map (given t) ps) ≡ map f ps
@@ -33,12 +33,20 @@ kept : (b : Bool) (p : PlannedPromise) (n u : ℕ) → p.putter ≡ Some u → (
 kept true p n u e = ap (λ (o : Option ℕ). or_else o (Some n)) e
 kept false p n u e = e
 
+given_scope : (b : Bool) (p : PlannedPromise) (n : ℕ) → (cond b (record p { putter = or_else p.putter (Some n) }) p).scope ≡ p.scope
+given_scope true p n = refl
+given_scope false p n = refl
+
 pub put_grows : (t : Putting) (ps : List PlannedPromise) → Grows ps (map (given t) ps)
 put_grows t ps = record {
   putters = λ q u e.
       let (p, at, put) = putter_parts ps q u e in
       putter_at (map (given t) ps) q (given t p) (mapped_at (given t) ps q p at) ∙ kept (bytes_eq t.promise p.name) p t.node u put;
+  scopes = λ q b e.
+      let (p, at, is) = scope_parts ps q b e in
+      scope_at (map (given t) ps) q (given t p) (mapped_at (given t) ps q p at) ∙ ap Some (given_scope (bytes_eq t.promise p.name) p t.node ∙ is);
   lens = ([], stays_given (λ p. p.len) (λ p o. refl) t ps ∙ sym (append-nil (promise_lens ps)));
+  names = ([], stays_given (λ p. p.name) (λ p o. refl) t ps ∙ sym (append-nil (map (λ p. p.name) ps)));
 }
 
 new : (b : Bool) (p : PlannedPromise) (n : ℕ) → b ≡ true → p.putter ≡ None → (cond b (record p { putter = or_else p.putter (Some n) }) p).putter ≡ Some n
@@ -66,3 +74,28 @@ put_split t ps q v e =
       | inl old ↦ inl (putter_at ps q p here ∙ old)
       | inr both ↦ inr (p, here, both.0, both.1)
     ]
+
+-- a promise of another name stays as it is
+pub given_other : (t : Putting) (ps : List PlannedPromise) (i : ℕ) (p : PlannedPromise) → slice_get ps i ≡ Some p → bytes_eq t.promise p.name ≡ false → slice_get (map (given t) ps) i ≡ Some p
+given_other t ps i p at other = mapped_at (given t) ps i p at ∙ ap (λ (b : Bool). Some (cond b (record p { putter = or_else p.putter (Some t.node) }) p)) other
+
+or_none : (o : Option ℕ) (n : ℕ) → or_else o (Some n) ≡ None → ⊥
+or_none None n e = none-some n (sym e)
+or_none (Some m) n e = none-some m (sym e)
+
+unput_stays : (b : Bool) (p y : PlannedPromise) (n : ℕ) → cond b (record p { putter = or_else p.putter (Some n) }) p ≡ y → y.putter ≡ None → (b ≡ false) × (y ≡ p)
+unput_stays true p y n is none = absurd (or_none p.putter n (ap (λ (x : PlannedPromise). x.putter) is ∙ none))
+unput_stays false p y n is none = (refl, sym is)
+
+-- what nothing puts after a put is of another name, and was so before
+pub unput_given : (t : Putting) (ps : List PlannedPromise) (i : ℕ) (y : PlannedPromise) → slice_get (map (given t) ps) i ≡ Some y → y.putter ≡ None → (p : PlannedPromise) × (slice_get ps i ≡ Some p) × (y ≡ p) × (p.putter ≡ None)
+unput_given t ps i y at none =
+    let (p, here, is) = mapped_from (given t) ps i y at in
+    let same = unput_stays (bytes_eq t.promise p.name) p y t.node is none in
+    (p, here, same.1, ap (λ (x : PlannedPromise). x.putter) (sym same.1) ∙ none)
+
+pub unput_apart : (t : Putting) (ps : List PlannedPromise) (i : ℕ) (y : PlannedPromise) → slice_get (map (given t) ps) i ≡ Some y → y.putter ≡ None → bytes_eq t.promise y.name ≡ false
+unput_apart t ps i y at none =
+    let (p, here, is) = mapped_from (given t) ps i y at in
+    let same = unput_stays (bytes_eq t.promise p.name) p y t.node is none in
+    ap (λ (x : PlannedPromise). bytes_eq t.promise x.name) same.1 ∙ same.0

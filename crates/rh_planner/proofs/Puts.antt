@@ -1,5 +1,5 @@
 -- What a `put` adds to the facts above, and why it is refused.
-use Rattle.std.proofs.Common.{◌≡◌, ℕ, ◌+◌, List, [], ◌∷◌, ◌++◌, Bool, Option, Some, None, true, false, ◌||◌, refl, arith, append-nil, sym, ap, ◌∙◌, subst}
+use Rattle.std.proofs.Common.{◌≡◌, ℕ, ◌+◌, List, [], ◌∷◌, ◌++◌, Bool, Option, Some, None, true, false, ◌||◌, refl, arith, append-nil, ap, ◌∙◌, subst}
 use Rattle.std.specs.Prelude.{is_some, cond, not, slice_index, ◌==◌}
 use Rattle.std.specs.Prelude.{unwrap_or}
 use Rattle.std.specs.Option.{option_map}
@@ -33,6 +33,7 @@ stays : (f : Facts) (q : List ℕ) (s : Statement) → record {
   drops = f.drops ++ [];
   steps = f.steps ++ put_step f.promises (numbers_used f.locals s) q ∷ [];
   scheme = f.scheme;
+  checks = f.checks ++ [];
 } ≡ with_put f q s
 stays f q s = let none : f.count + 0 ≡ f.count = omega arith in simp (append-nil, none)
 

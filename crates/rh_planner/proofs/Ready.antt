@@ -1,27 +1,34 @@
 -- Each line of a lawful text may be planned where those above it were.
-use Rattle.std.proofs.Common.{◌≡◌, ℕ, ◌+◌, ◌<◌, ◌≤◌, List, [], ◌∷◌, ◌++◌, Option, Some, None, true, refl, arith, length, get_or, take, drop, map, sym, ap, ◌∙◌, subst}
-use Rattle.std.specs.Prelude.{option_to_list}
+use Rattle.std.proofs.Common.{◌≡◌, ℕ, ◌+◌, ◌<◌, ◌≤◌, List, [], ◌∷◌, ◌++◌, arith, length, get_or, take, drop, map, sym, ap, ◌∙◌, subst}
+use Rattle.std.specs.List.{AllByRecursion, IsDistinct}
+use Rattle.std.specs.Str.{bytes_eq}
 use Rattle.rh_task_text.specs.declared.statement.Statement.{Statement}
-use Rattle.rh_task_text.specs.declared.statement.Statement.TheVariants as text
 use Rattle.rh_task_text.specs.declared.statement.Item.{Item}
-use Rattle.rh_task_text.specs.Blocks.{open_blocks, innermost, may_stand, lets_here}
+use Rattle.rh_task_text.specs.Blocks.{lets_here, open_blocks, innermost, may_stand}
+use Rattle.rh_task_text.specs.Program.{ProgramText, IsLawfulText, AllStand, upward, IsLawful}
+use Rattle.rh_rules.specs.declared.block.OpenBlock.{OpenBlock}
+use Rattle.rh_rules.specs.declared.block.OpenBlock.TheVariants.{TaskBlock, MatrixBlock, GroupBlock, ScopeBlock}
+use Rattle.rh_rules.specs.declared.node.PlannedPromise.{PlannedPromise}
+use Rattle.rh_rules.specs.Above.{Facts, facts_above}
 use Rattle.rh_task_text.specs.declared.form.Block.{Block}
 use Rattle.rh_task_text.specs.declared.form.Standing.TheVariants.{Outside}
 use Rattle.rh_task_text.specs.declared.statement.SchemeText.{SchemeText}
 use Rattle.rh_task_text.specs.declared.statement.SchemeText.TheVariants.{Plain, Replicate, Replay, Abft}
 use Rattle.rh_task_text.specs.Forms.{form}
 use Rattle.rh_task_text.specs.Statements.{kind_of}
-use Rattle.rh_task_text.specs.Program.{ProgramText, IsLawful, IsLawfulText, AllStand, upward}
-use Rattle.rh_rules.specs.Above.{OpenBlock, TaskBlock, facts_above}
+use Rattle.rh_check.specs.Users.{HandedChecks, ArePaired}
 use Rattle.rh_rules.specs.Rules.{AllKeep}
 use Rattle.rh_rules.specs.Limits.{IsWithinLimits}
 use Rattle.rh_planner.specs.declared.planner.Planner.{Planner}
 use Rattle.rh_planner.specs.Planned.{look_above}
-use Rattle.rh_planner.specs.States.{HasFacts, HasRoom, IsFree}
-use Rattle.rh_planner.specs.Sound.{AreCounted}
+use Rattle.rh_planner.specs.States.{HasFacts, HasRoom, IsClosable}
+use Rattle.rh_planner.specs.Sound.{nodes_open}
 use Rattle.rh_planner.proofs.Grammar.{within}
 use Rattle.rh_planner.proofs.Wholes.{upward_append, split_at}
-use Rattle.rh_planner.proofs.Counting.{counted, outside}
+use Rattle.rh_planner.proofs.Counting.{counted}
+use Rattle.rh_planner.proofs.SoundFacts.{AreSound, IsSoundBlock}
+use Rattle.rh_planner.proofs.ScopeLines.{own_there, own_unput}
+use Rattle.rh_planner.proofs.LawfulDrafts.{sound_facts}
 
 stand_suffix : (xs ys : List Statement) → AllStand (xs ++ ys) → AllStand ys
 stand_suffix [] ys stand = stand
@@ -34,32 +41,30 @@ stand_at text items i item lawful same h is =
     ap (λ (l : List Item). upward l) (sym same ∙ split_at items i item h is) ∙ upward_append (take i items) item (drop (i + 1) items) in
     stand_suffix (upward (drop (i + 1) items)) (item.statement ∷ upward (take i items)) (subst AllStand whole lawful.lawful)
 
-pub room_at : (above : List Statement) (p : Planner) → AllStand above → AllKeep look_above above → lets_here above ≤ 32 → HasFacts p (facts_above look_above above) → HasRoom p
-room_at above p stand kept lets has =
-    let c = counted above stand kept in
-    let count : length p.nodes.items ≡ (facts_above look_above above).count = has.count in
-    let room : (facts_above look_above above).count + length (facts_above look_above above).blocks ≤ 16384 = c.room in
-    let same : length p.task.locals.items ≡ length (facts_above look_above above).locals = ap length has.locals in
-    let inputs : length (facts_above look_above above).inputs ≤ 16 = c.inputs in
-    let locals : length (facts_above look_above above).locals ≤ length (facts_above look_above above).inputs + lets_here above = c.locals in
+pub room_at : (handed : HandedChecks) (above : List Statement) (p : Planner) → AllStand above → AllKeep (look_above handed) above → lets_here above ≤ 32 → HasFacts p (facts_above (look_above handed) above) → HasRoom p
+room_at handed above p stand kept lets has =
+    let c = counted handed above stand kept in
+    let count : length p.nodes.items ≡ (facts_above (look_above handed) above).count = has.count in
+    let room : (facts_above (look_above handed) above).count + nodes_open (facts_above (look_above handed) above).blocks ≤ 16384 = c.room in
+    let same : length p.task.locals.items ≡ length (facts_above (look_above handed) above).locals = ap length has.locals in
+    let inputs : length (facts_above (look_above handed) above).inputs ≤ 16 = c.inputs in
+    let locals : length (facts_above (look_above handed) above).locals ≤ length (facts_above (look_above handed) above).inputs + lets_here above = c.locals in
     record { nodes = omega arith; locals = omega arith }
 
-no_task : (o : Option (List ℕ)) → map TaskBlock (option_to_list o) ≡ [] → o ≡ None
-no_task None e = refl
-no_task (Some name) e = cc
+-- the innermost open block may be closed
+closable : (f : Facts) (bs : List OpenBlock) → IsDistinct bytes_eq (map (λ (p : PlannedPromise). p.name) f.promises) → AllByRecursion (IsSoundBlock f.nodes f.promises) bs → IsClosable f.promises bs
+closable f [] distinct all = tt
+closable f (TaskBlock name ∷ bs) distinct all = tt
+closable f (MatrixBlock ∷ bs) distinct all = tt
+closable f (GroupBlock number ∷ bs) distinct all = tt
+closable f (ScopeBlock name first ∷ bs) distinct all = (own_there f.promises name all.0, own_unput f.promises name distinct all.0)
 
--- a task of any scheme stands outside of tasks
-placed : (scheme : SchemeText) (here : Option Block) (name : List ℕ) (awaits : List (List ℕ)) → may_stand (form (kind_of (text.Task name scheme awaits))).standing here ≡ true → may_stand Outside here ≡ true
-placed Plain here name awaits e = e
-placed Replicate here name awaits e = e
-placed (Replay limit) here name awaits e = e
-placed Abft here name awaits e = e
-
-pub free_at : (above : List Statement) (s : Statement) (p : Planner) → AllStand (s ∷ above) → AllKeep look_above above → HasFacts p (facts_above look_above above) → IsFree p.task_name s
-free_at above (text.Task name scheme awaits) p stand kept has =
-    let c = counted above stand.1 kept in
-    no_task p.task_name (has.blocks ∙ (outside (open_blocks above) (facts_above look_above above).blocks c.blocks (placed scheme (innermost (open_blocks above)) name awaits stand.0.placed.0)).1)
-free_at above s p stand kept has = tt
+pub closable_at : (handed : HandedChecks) → ArePaired handed → (above : List Statement) (p : Planner) → AllStand above → AllKeep (look_above handed) above → HasFacts p (facts_above (look_above handed) above) → IsClosable p.declared.promises p.blocks
+closable_at handed paired above p stand kept has =
+    let f : Facts = facts_above (look_above handed) above in
+    let s : AreSound f = sound_facts handed paired above stand kept in
+    subst (λ (ps : List PlannedPromise). IsClosable ps p.blocks) (sym has.promises)
+    (subst (IsClosable f.promises) (sym has.blocks) (closable f f.blocks s.promise_names.once s.blocks))
 
 pub within_at : (above : List Statement) (s : Statement) → AllStand (s ∷ above) → IsWithinLimits s
 within_at above s stand = within above s stand.0

@@ -8,8 +8,9 @@ use Rattle.rh_planner.specs.declared.planner.Planner.{Planner}
 use Rattle.rh_planner.specs.Planned.{look_above}
 use Rattle.rh_planner.specs.States.{Judges, facts_of}
 
-pub judges_refused : (old : Planner) (s : Statement) (new : Planner) (reason : Reason) → reason_in look_above (facts_of old) s ≡ Some reason → Judges old s new (Some reason)
-judges_refused old s new reason is = record {
+pub judges_refused : (old : Planner) (s : Statement) (new : Planner) (reason : Reason) → new.handed ≡ old.handed → reason_in (look_above old.handed) (facts_of old) s ≡ Some reason → Judges old s new (Some reason)
+judges_refused old s new reason handed is = record {
   reason = sym is;
   tables = λ e. absurd (none-some reason (sym e));
+  handed = handed;
 }

@@ -4,9 +4,10 @@ use Rattle.std.specs.Prelude.{◌||◌, ◌&&◌, nat_le, nat_lt}
 use Rattle.std.specs.List.{list_any}
 use Rattle.rh_task_text.specs.declared.statement.Statement.{Statement}
 use Rattle.rh_rules.specs.Tables.{if_any, is_among, is_local, is_promise, promise_len, is_put, is_own}
+use Rattle.rh_check.specs.Users.{HandedChecks}
 use Rattle.rh_rules.specs.Facets.{facets}
-use Rattle.rh_rules.specs.Above.{Facts, lens_used, made_len}
-use Rattle.rh_rules.specs.Rules.{are_distinct, is_await, is_dropped, is_put_here, is_node_line, is_promise_over}
+use Rattle.rh_rules.specs.Above.{Facts, lens_used, lens_read, made_len}
+use Rattle.rh_rules.specs.Rules.{are_distinct, is_await, is_dropped, is_put_here, is_node_line, is_promise_over, is_bad_scheme, may_check}
 use Rattle.rh_planner.specs.Planned.{look_above}
 use Rattle.rh_planner.proofs.Using.{not_false, neither}
 use Rattle.rh_planner.proofs.Keeping.{Keeps}
@@ -17,9 +18,15 @@ pub record Rules (f : Facts) (s : Statement) : Type 0 where
   pub distinct : are_distinct (facets s).awaited ≡ true
   pub awaited : list_any (λ q. not (is_promise f.promises q)) (facets s).awaited ≡ false
   pub put_to : if_any (λ q. not (is_promise f.promises q)) (facets s).put_to ≡ false
+  pub unmade : if_any (is_local f.locals) (facets s).made ≡ false
   pub used : list_any (λ x. not (is_local f.locals x)) (facets s).used ≡ false
+  pub checked : if_any (λ q. not (is_put_here f q)) (facets s).checked ≡ false
+  pub read : list_any (λ q. not (is_await f q)) (facets s).inputs ≡ false
+  pub schemed : if_any is_bad_scheme (facets s).scheme ≡ false
+  pub may_check : if_any (λ q. not (may_check f.scheme)) (facets s).checked ≡ false
   pub in_order : list_any (λ q. not (is_put f.promises q)) (facets s).awaited ≡ false
   pub unowned : if_any (λ q. is_own f.promises q || is_put f.promises q) (facets s).put_to ≡ false
+  pub suited : if_any (λ q. not ((facets s).suits (promise_len f.promises q) (lens_read f.locals s))) (facets s).checked ≡ false
   pub as_long : if_any (λ q. not (slice_index (lens_used f.locals s) 0 == promise_len f.promises q)) (facets s).put_to ≡ false
   pub fits : (facets s).fits (lens_used f.locals s) ≡ true
   pub dropped : if_any (λ q. not (is_await f q) || is_dropped f q) (facets s).dropped ≡ false
@@ -27,8 +34,8 @@ pub record Rules (f : Facts) (s : Statement) : Type 0 where
   pub promise_room : if_any (is_promise_over f.promises) (facets s).promised ≡ false
   pub local_room : if_any (λ x. nat_lt 4096 (made_len f.locals s)) (facets s).made ≡ false
 
-pub rules : (f : Facts) (s : Statement) → Keeps look_above f s → Rules f s
-rules f s keeps =
+pub rules : (handed : HandedChecks) (f : Facts) (s : Statement) → Keeps (look_above handed) f s → Rules f s
+rules handed f s keeps =
     let (twice, unmade) = neither (if_any (λ name. is_among name f.names) (facets s).declared || not (are_distinct (facets s).awaited)) (if_any (is_local f.locals) (facets s).made) keeps.once in
     let (fresh, distinct) = neither (if_any (λ name. is_among name f.names) (facets s).declared) (not (are_distinct (facets s).awaited)) twice in
     let a = list_any (λ q. not (is_promise f.promises q)) (facets s).awaited in
@@ -39,9 +46,11 @@ rules f s keeps =
     let (known3, read) = neither (a || b || c) d known4 in
     let (known2, checked) = neither (a || b) c known3 in
     let (awaited, put_to) = neither a b known2 in
-    let (as_long, fits) = neither (if_any (λ q. not (slice_index (lens_used f.locals s) 0 == promise_len f.promises q)) (facets s).put_to) (not ((facets s).fits (lens_used f.locals s))) keeps.fitting in
+    let (suited, put_fits) = neither (if_any (λ q. not ((facets s).suits (promise_len f.promises q) (lens_read f.locals s))) (facets s).checked) (if_any (λ q. not (slice_index (lens_used f.locals s) 0 == promise_len f.promises q)) (facets s).put_to || not ((facets s).fits (lens_used f.locals s))) keeps.fitting in
+    let (as_long, fits) = neither (if_any (λ q. not (slice_index (lens_used f.locals s) 0 == promise_len f.promises q)) (facets s).put_to) (not ((facets s).fits (lens_used f.locals s))) put_fits in
     let (held, used_held) = neither (if_any (λ q. not (is_await f q) || is_dropped f q) (facets s).dropped || list_any (is_dropped f) (facets s).inputs) (list_any (is_dropped f) (facets s).used) keeps.held in
     let (dropped, read_held) = neither (if_any (λ q. not (is_await f q) || is_dropped f q) (facets s).dropped) (list_any (is_dropped f) (facets s).inputs) held in
+    let (schemed, checks) = neither (if_any is_bad_scheme (facets s).scheme) (if_any (λ q. not (may_check f.scheme)) (facets s).checked) keeps.schemed in
     let (within, local_room) = neither ((is_node_line f.blocks s && nat_le 16384 f.count) || if_any (is_promise_over f.promises) (facets s).promised) (if_any (λ x. nat_lt 4096 (made_len f.locals s)) (facets s).made) keeps.within in
     let (node_room, promise_room) = neither (is_node_line f.blocks s && nat_le 16384 f.count) (if_any (is_promise_over f.promises) (facets s).promised) within in
     record {
@@ -49,9 +58,15 @@ rules f s keeps =
       distinct = not_false (are_distinct (facets s).awaited) distinct;
       awaited = awaited;
       put_to = put_to;
+      unmade = unmade;
       used = used;
+      checked = checked;
+      read = read;
+      schemed = schemed;
+      may_check = checks;
       in_order = keeps.in_order;
       unowned = keeps.unowned;
+      suited = suited;
       as_long = as_long;
       fits = not_false ((facets s).fits (lens_used f.locals s)) fits;
       dropped = dropped;

@@ -1,5 +1,6 @@
 -- The step of a `let` that keeps the rules and the grammar is sound.
-use Rattle.std.proofs.Common.{◌≡◌, ℕ, zero, suc, ◌+◌, ◌<◌, ◌≤◌, ◌==◌, List, [], ◌∷◌, true, false, Option, Some, not, refl, arith, length, map, sum, ap, subst, unwrap_or, slice_index}
+use Rattle.std.proofs.Common.{◌≡◌, ℕ, zero, suc, ◌+◌, ◌*◌, ◌<◌, ◌≤◌, ◌==◌, ◌&&◌, List, [], ◌∷◌, Bool, true, false, sym, Option, Some, not, refl, arith, length, map, sum, ap, subst, unwrap_or, slice_index}
+use Rattle.std.proofs.lemmas.Bool.{false≢true}
 use Rattle.std.proofs.lemmas.Bool.Decides.{nat_tests}
 use Rattle.std.proofs.lemmas.Option.{none-some}
 use Rattle.std.proofs.lemmas.List.{length-map}
@@ -13,7 +14,7 @@ use Rattle.rh_task_text.specs.declared.statement.Statement.TheVariants as text
 use Rattle.rh_rules.specs.declared.body.Step.{Step}
 use Rattle.rh_rules.specs.declared.body.Step.TheVariants as steps
 use Rattle.rh_rules.specs.Tables.{LocalName, local, place_of, is_local, number_of, lens_of}
-use Rattle.rh_rules.specs.Facets.{facets}
+use Rattle.rh_rules.specs.Facets.{facets, are_sides}
 use Rattle.rh_rules.specs.Limits.{IsWithinLimits}
 use Rattle.rh_rules.specs.Bodies.{IsThere, IsSoundStep, let_len, put_at, drop_at}
 use Rattle.rh_rules.specs.Above.{numbers_used, lens_used, made_len}
@@ -49,8 +50,8 @@ short_at (n ∷ lens) (suc i) all h = short_at lens i all.1 (omega arith)
 pub record IsSoundLet (promises lens : List ℕ) (step : Option Step) (len : ℕ) : Type 0 where
   pub made : Step
   pub is : step ≡ Some made
-  pub sound : IsSoundStep promises lens made
-  pub long : let_len lens made ≡ Some len
+  pub sound : IsSoundStep [] promises lens made
+  pub long : let_len [] lens made ≡ Some len
   pub short : 1 ≤ len
   pub puts : put_at made ≡ []
   pub drops : drop_at made ≡ []
@@ -71,6 +72,27 @@ sum_first lens ls (x ∷ xs) is few short k =
     let h : 1 ≤ slice_index (lens_of ls) (number_of ls x) = (short_at (lens_of ls) (number_of ls x) (subst (AllByRecursion IsShort) is short) k.0).0 in
     let first : sum (map (λ i. slice_index (lens_of ls) i) (map (number_of ls) (x ∷ xs))) ≡ slice_index (lens_of ls) (number_of ls x) + sum (map (λ i. slice_index (lens_of ls) i) (map (number_of ls) xs)) = sum_by-cons (λ (n : ℕ). n) (slice_index (lens_of ls) (number_of ls x)) (map (λ i. slice_index (lens_of ls) i) (map (number_of ls) xs)) in
     omega arith
+
+some_at : (ls : List LocalName) (x : List ℕ) → AllByRecursion IsShort (lens_of ls) → IsKnown ls x → 1 ≤ slice_index (lens_of ls) (number_of ls x)
+some_at ls x short k = (short_at (lens_of ls) (number_of ls x) short k).0
+
+both_true : (a b : Bool) → (a && b) ≡ true → (a ≡ true) × (b ≡ true)
+both_true true b e = (refl, e)
+both_true false b e = absurd (false≢true e)
+
+-- the four sides fit the grid, as equations
+pub record SidesFit (cols : ℕ) (lens : List ℕ) : Type 0 where
+  pub north : slice_index lens 0 ≡ cols
+  pub south : slice_index lens 1 ≡ cols
+  pub east : slice_index lens 2 ≡ slice_index lens 3
+  pub whole : slice_index lens 2 * cols ≡ slice_index lens 4
+
+pub sides_fit : (cols : ℕ) (lens : List ℕ) → are_sides cols lens ≡ true → SidesFit cols lens
+sides_fit cols lens fits =
+    let (north, rest) = both_true (slice_index lens 0 == cols) _ fits in
+    let (south, more) = both_true (slice_index lens 1 == cols) _ rest in
+    let (east, whole) = both_true (slice_index lens 2 == slice_index lens 3) _ more in
+    record { north = same _ _ north; south = same _ _ south; east = same _ _ east; whole = same _ _ whole }
 
 pub let_sound : (s : Statement) (promises : List ℕ) (ls : List LocalName) (x : List ℕ) → (facets s).built ≡ true → (facets s).made ≡ Some x → IsWithinLimits s
     → AllByRecursion IsShort (lens_of ls) → AllByRecursion (IsKnown ls) (facets s).used → (facets s).fits (lens_used ls s) ≡ true → made_len ls s ≤ 4096
@@ -103,7 +125,18 @@ let_sound (text.LetSum y a) promises ls x b e h short k fits most =
     record { made = steps.Sum (number_of ls a); is = refl; sound = k.0; long = refl; short = omega arith; puts = refl; drops = refl }
 let_sound (text.LetCount y a) promises ls x b e h short k fits most =
     record { made = steps.Count (number_of ls a); is = refl; sound = k.0; long = refl; short = omega arith; puts = refl; drops = refl }
-let_sound (text.LetStencil1 y l m r f n) promises ls x b e h short k fits most = cc
-let_sound (text.LetStencil2 y north south west east m cols f n) promises ls x b e h short k fits most = cc
+let_sound (text.LetStencil1 y l m r f n) promises ls x b e h short k fits most =
+    record { made = steps.Stencil1 (number_of ls l) (number_of ls m) (number_of ls r) f n; is = refl; sound = ((k.0, some_at ls l short k.0), (k.1.0, some_at ls m short k.1.0), (k.1.1.0, some_at ls r short k.1.1.0), h); long = refl; short = some_at ls m short k.1.0; puts = refl; drops = refl }
+let_sound (text.LetStencil2 y north south west east m cols f n) promises ls x b e h short k fits most =
+    let sides = sides_fit cols (lens_used ls (text.LetStencil2 y north south west east m cols f n)) fits in
+    record {
+      made = steps.Stencil2 (number_of ls north) (number_of ls south) (number_of ls west) (number_of ls east) (number_of ls m) cols f n;
+      is = refl;
+      sound = (record { there = (k.0, k.1.0, k.1.1.0, k.1.1.1.0, k.1.1.1.1.0); columns = h.0; rows = some_at ls west short k.1.1.0; north_len = sides.north; south_len = sides.south; east_len = sym sides.east; whole = sym sides.whole }, h.1);
+      long = refl;
+      short = some_at ls m short k.1.1.1.1.0;
+      puts = refl;
+      drops = refl;
+    }
 let_sound (text.LetProduct y a v) promises ls x b e h short k fits most = cc
 let_sound s promises ls x b e h short k fits most = absurd (none-some x e)

@@ -1,13 +1,16 @@
--- A line that opens a task keeps the facts sound: what it awaits is put by nodes above.
-use Rattle.std.proofs.Common.{◌≡◌, ℕ, ◌<◌, List, [], ◌∷◌, ◌++◌, Bool, true, false, Some, not, length, map, refl, ap, sym, ◌∙◌, subst, inl, inr, append-nil}
+-- A line that opens a task or a group keeps the facts sound: what it awaits is put by nodes above.
+use Rattle.std.proofs.Common.{◌≡◌, ℕ, ◌<◌, ◌≤◌, List, [], ◌∷◌, ◌++◌, Bool, true, false, Some, not, length, map, refl, ap, sym, ◌∙◌, subst, inl, inr, arith, append_assoc}
 use Rattle.std.specs.Prelude.{slice_get, IsSomeAnd, nat_eq}
 use Rattle.std.specs.List.{AllByRecursion, IsDistinct, list_any}
 use Rattle.std.specs.Str.{bytes_eq}
 use Rattle.std.proofs.lemmas.Bool.{false≢true, true≢false, and_parts}
 use Rattle.std.proofs.lemmas.Bool.Decides.{eqb_tells}
 use Rattle.std.proofs.lemmas.Option.{same_Some, slice_get_within}
+use Rattle.std.proofs.lemmas.List.{map-append, length-map}
 use Rattle.rh_words.specs.Naming.{is_name}
+use Rattle.rh_task_text.specs.declared.statement.SchemeText.{SchemeText}
 use Rattle.rh_rules.specs.declared.node.Node.{Node}
+use Rattle.rh_rules.specs.declared.node.Kind.TheVariants as kinds
 use Rattle.rh_rules.specs.declared.body.Step.{Step}
 use Rattle.rh_rules.specs.declared.node.PlannedPromise.{PlannedPromise}
 use Rattle.rh_rules.specs.Tables.{is_among, is_promise, is_put, promise_number, lens_of}
@@ -15,11 +18,13 @@ use Rattle.rh_rules.specs.Bodies.{lens_at}
 use Rattle.rh_rules.specs.Lawful.{promise_lens, putter_of, IsAmong}
 use Rattle.rh_rules.specs.Above.{Facts, await_local}
 use Rattle.rh_rules.specs.Rules.{are_distinct}
-use Rattle.rh_planner.proofs.After.{with_task}
+use Rattle.rh_planner.proofs.After.{with_task, with_group, group_in_facts}
 use Rattle.rh_planner.proofs.Using.{neither, not_false}
 use Rattle.rh_planner.proofs.DeclaredPromises.{some_of, all_at, name_is, putter_at, declared}
-use Rattle.rh_planner.proofs.SoundTasks.{IsShort, some_is, some_parts}
-use Rattle.rh_planner.proofs.SoundFacts.{AreNamed, AreSound, IsSoundPromise, IsPutBy, block_names, named_kept, named_push, no_numbers}
+use Rattle.rh_planner.proofs.SoundTasks.{IsShort, some_and, some_is, some_parts}
+use Rattle.rh_planner.proofs.SoundFacts.{AreNamed, AreSound, IsSoundPromise, IsSoundNode, a_group, IsGroupNode, IsPutBy, block_names, named_kept, named_insert, blocks_grown, idle_task, no_numbers, slice_get_append, slice_get_last, slice_get_push_cases, named_push}
+use Rattle.rh_planner.proofs.PromiseLines.{enclosed_more}
+use Rattle.rh_planner.proofs.LocalNames.{no_locals, locals_opened}
 
 -- the names are those of promises
 abbrev AreDeclared : List PlannedPromise → List (List ℕ) → Type 0
@@ -84,30 +89,29 @@ awaits_long ps (q ∷ names) known =
     ap (λ (n : ℕ). n ∷ lens_at (promise_lens ps) (map (promise_number ps) names)) (d.long ∙ sym d.len)
     ∙ ap (λ (l : List ℕ). (await_local ps q).len ∷ l) (awaits_long ps names known.1)
 
-pub sound_task : (f : Facts) (name : List ℕ) (awaits : List (List ℕ)) → AreSound f → f.blocks ≡ [] → f.steps ≡ [] → is_among name f.names ≡ false → is_name name ≡ true
-    → are_distinct awaits ≡ true → list_any (λ q. not (is_promise f.promises q)) awaits ≡ false → list_any (λ q. not (is_put f.promises q)) awaits ≡ false → AreSound (with_task f name awaits)
-sound_task f name awaits s free idle fresh named distinct known in_order =
+pub sound_task : (f : Facts) (name : List ℕ) (scheme : SchemeText) (awaits : List (List ℕ)) → AreSound f → f.steps ≡ [] → is_among name f.names ≡ false → is_name name ≡ true
+    → are_distinct awaits ≡ true → list_any (λ q. not (is_promise f.promises q)) awaits ≡ false → list_any (λ q. not (is_put f.promises q)) awaits ≡ false → AreSound (with_task f name scheme awaits)
+sound_task f name scheme awaits s idle fresh named distinct known in_order =
     let ps : List PlannedPromise = f.promises in
     let all = all_declared ps awaits known in
     let put : (q v : ℕ) → putter_of ps q ≡ Some v → IsPutBy f.nodes [] q v = λ q v e. subst (λ (steps : List Step). IsPutBy f.nodes steps q v) idle (s.put q v e) in
-    let names = map (λ (node : Node). node.name) f.nodes in
-    let none : block_names f.blocks ≡ [] = ap block_names free in
-    let old : AreNamed names f.names = subst (λ (l : List (List ℕ)). AreNamed l f.names) (ap (λ (l : List (List ℕ)). names ++ l) none ∙ append-nil names) s.node_names in
     record {
       promise_names = named_kept (map (λ (p : PlannedPromise). p.name) ps) f.names name s.promise_names;
-      node_names = subst (λ (l : List (List ℕ)). AreNamed (names ++ name ∷ l) (f.names ++ name ∷ [])) (sym none) (named_push names f.names name old fresh);
-      task_names = (named, s.task_names);
+      node_names = named_insert (map (λ (node : Node). node.name) f.nodes) (block_names f.blocks) f.names name s.node_names fresh;
+      blocks = (named, s.blocks);
       promises = s.promises;
       few = s.few;
       total = s.total;
       shown = s.shown;
       ended = s.ended;
+      enclosed = s.enclosed;
       task = record {
         awaited = put_above ps f.nodes awaits put all in_order;
         awaits_once = numbers_distinct ps awaits all distinct;
         sound = tt;
         own = tt;
         once = no_numbers;
+        unscoped = tt;
         dropped = tt;
         drops_once = no_numbers;
         short = awaits_short ps awaits s.promises all;
@@ -115,5 +119,55 @@ sound_task f name awaits s free idle fresh named distinct known in_order =
       lens = awaits_long ps awaits all;
       drops = refl;
       drops_within = tt;
+      named = locals_opened ps awaits all distinct;
+      checks = tt;
+      unchecked = λ none. refl;
       put = put;
+      scopes = s.scopes;
+    }
+
+pub sound_group : (f : Facts) (name : List ℕ) (awaits : List (List ℕ)) → AreSound f → f.count ≡ length f.nodes → f.steps ≡ [] → is_among name f.names ≡ false → is_name name ≡ true → length awaits ≤ 16
+    → are_distinct awaits ≡ true → list_any (λ q. not (is_promise f.promises q)) awaits ≡ false → list_any (λ q. not (is_put f.promises q)) awaits ≡ false → AreSound (with_group f name awaits)
+sound_group f name awaits s counted idle fresh named few distinct known in_order =
+    let ps : List PlannedPromise = f.promises in
+    let n : Node = group_in_facts f name awaits in
+    let all = all_declared ps awaits known in
+    let put : (q v : ℕ) → putter_of ps q ≡ Some v → IsPutBy f.nodes [] q v = λ q v e. subst (λ (steps : List Step). IsPutBy f.nodes steps q v) idle (s.put q v e) in
+    let names = map (λ (node : Node). node.name) f.nodes in
+    let long : length (map (promise_number ps) awaits) ≡ length awaits = length-map awaits (promise_number ps) in
+    let same : names ++ name ∷ block_names f.blocks ≡ map (λ (node : Node). node.name) (f.nodes ++ n ∷ []) ++ block_names f.blocks =
+    sym (append_assoc names (name ∷ []) (block_names f.blocks)) ∙ ap (λ (l : List (List ℕ)). l ++ block_names f.blocks) (sym (map-append (λ (node : Node). node.name) f.nodes (n ∷ []))) in
+    let group : IsGroupNode ps (length f.nodes) n = record {
+      name = named;
+      is = refl;
+      few = omega arith;
+      awaited = put_above ps f.nodes awaits put all in_order;
+      awaits_once = numbers_distinct ps awaits all distinct;
+    } in
+    let here : slice_get (f.nodes ++ n ∷ []) f.count ≡ Some n = ap (λ (k : ℕ). slice_get (f.nodes ++ n ∷ []) k) counted ∙ slice_get_last f.nodes n in
+    record {
+      promise_names = named_kept (map (λ (p : PlannedPromise). p.name) ps) f.names name s.promise_names;
+      node_names = subst (λ (l : List (List ℕ)). AreNamed l (f.names ++ name ∷ [])) same (named_insert names (block_names f.blocks) f.names name s.node_names fresh);
+      blocks = (some_is (λ (node : Node). node.kind ≡ kinds.Group) (slice_get (f.nodes ++ n ∷ []) f.count) n here refl, blocks_grown f.nodes (n ∷ []) ps f.blocks s.blocks);
+      promises = s.promises;
+      few = s.few;
+      total = s.total;
+      shown = s.shown;
+      ended = λ v node at. elim (slice_get_push_cases f.nodes n v node at) [
+        | inl old ↦ s.ended v node old
+        | inr new ↦ subst (λ (m : Node). IsSoundNode ps v m) new.1 (subst (λ (k : ℕ). IsSoundNode ps k n) (sym new.0) (a_group group))
+      ];
+      enclosed = enclosed_more f n s refl;
+      task = idle_task ps (length (f.nodes ++ n ∷ []));
+      lens = refl;
+      drops = refl;
+      drops_within = tt;
+      checks = tt;
+      unchecked = λ h. refl;
+      named = no_locals ps;
+      put = λ q v e. elim (put q v e) [
+        | inl old ↦ inl (some_and (λ (node : Node). IsAmong node.puts q) (slice_get f.nodes v) (slice_get (f.nodes ++ n ∷ []) v) (λ node is. slice_get_append f.nodes (n ∷ []) v node is) old)
+        | inr none ↦ absurd (false≢true none.1)
+      ];
+      scopes = s.scopes;
     }

@@ -22,7 +22,7 @@ at_place : (o : Option ℕ) (p : ℕ → Bool) → is_some o ≡ true → if_any
 at_place None p there = absurd (false≢true there)
 at_place (Some i) p there = refl
 
-dropped_all : (ls : List LocalName) (drops : List ℕ) (xs : List (List ℕ)) → list_any (λ x. not (is_local ls x)) xs ≡ false → list_any (λ x. if_any (λ i. is_in i drops) (place_of x ls)) xs ≡ list_any (λ i. is_in i drops) (map (number_of ls) xs)
+pub dropped_all : (ls : List LocalName) (drops : List ℕ) (xs : List (List ℕ)) → list_any (λ x. not (is_local ls x)) xs ≡ false → list_any (λ x. if_any (λ i. is_in i drops) (place_of x ls)) xs ≡ list_any (λ i. is_in i drops) (map (number_of ls) xs)
 dropped_all ls drops [] e = refl
 dropped_all ls drops (x ∷ xs) e =
     let (first, rest) = neither (not (is_local ls x)) (list_any (λ x. not (is_local ls x)) xs) e in

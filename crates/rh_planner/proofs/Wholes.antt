@@ -1,13 +1,15 @@
 -- From line to line over a whole text.
-use Rattle.std.proofs.Common.{◌≡◌, ℕ, ◌+◌, ◌<◌, ◌≤◌, List, [], ◌∷◌, ◌++◌, Option, Some, None, refl, arith, length, get_or, take, drop, map, reverse, sym, ap, ◌∙◌, subst, append_assoc}
+use Rattle.std.proofs.Common.{◌≡◌, ℕ, ◌+◌, ◌<◌, List, [], ◌∷◌, ◌++◌, Option, None, refl, length, get_or, take, drop, map, reverse, sym, ap, ◌∙◌, subst, append_assoc}
 use Rattle.std.proofs.lemmas.List.{map-append, reverse-append, take-append-drop, drop_more, take_more}
 use Rattle.rh_words.specs.declared.reason.Reason.{Reason}
 use Rattle.rh_task_text.specs.declared.statement.Statement.{Statement}
 use Rattle.rh_task_text.specs.declared.statement.Statement.TheVariants as text
 use Rattle.rh_task_text.specs.declared.statement.Item.{Item}
 use Rattle.rh_task_text.specs.Program.{upward}
+use Rattle.rh_check.specs.Users.{HandedChecks}
 use Rattle.rh_rules.specs.Facets.{Turn, Opens, Closes, Stays, facets}
-use Rattle.rh_rules.specs.Above.{Look, OpenBlock, opened, block_of, opening_block, nodes_counted, adds_nodes, ends_opened, ended_node, nodes_by, blocks_above, Facts, facts_above}
+use Rattle.rh_rules.specs.declared.block.OpenBlock.{OpenBlock}
+use Rattle.rh_rules.specs.Above.{Look, opened, block_of, opening_block, nodes_counted, adds_nodes, ends_opened, ended_node, nodes_by, blocks_above, Facts, facts_above}
 use Rattle.rh_rules.specs.Rules.{reason_in, reason_at}
 use Rattle.rh_planner.specs.declared.planner.Planner.{Planner}
 use Rattle.rh_planner.specs.Following.{after}
@@ -47,16 +49,16 @@ facts_next look above s =
 
 -- a planner that has these facts is these facts
 pub same_facts : (p : Planner) (f : Facts) → HasFacts p f → facts_of p ≡ f
-same_facts p f h = rw (h.count, h.nodes, h.names, h.promises, h.blocks, h.inputs, h.locals, h.drops, h.steps, h.scheme) refl
+same_facts p f h = rw (h.count, h.nodes, h.names, h.promises, h.blocks, h.inputs, h.locals, h.drops, h.steps, h.scheme, h.checks) refl
 
 -- what a judged statement leaves, by the statements above
-pub judged_next : (above : List Statement) (s : Statement) (old new : Planner) → HasFacts old (facts_above look_above above) → Judges old s new None → HasFacts new (facts_above look_above (s ∷ above))
-judged_next above s old new has judges =
-    subst (HasFacts new) (ap (λ (f : Facts). after look_above f s) (same_facts old (facts_above look_above above) has) ∙ sym (facts_next look_above above s)) (judges.tables refl)
+pub judged_next : (handed : HandedChecks) (above : List Statement) (s : Statement) (old new : Planner) → old.handed ≡ handed → HasFacts old (facts_above (look_above handed) above) → Judges old s new None → HasFacts new (facts_above (look_above handed) (s ∷ above))
+judged_next handed above s old new same has judges = subst (λ (h : HandedChecks). HasFacts old (facts_above (look_above h) above) → HasFacts new (facts_above (look_above h) (s ∷ above))) same
+    (λ here. subst (HasFacts new) (ap (λ (f : Facts). after (look_above old.handed) f s) (same_facts old (facts_above (look_above old.handed) above) here) ∙ sym (facts_next (look_above old.handed) above s)) (judges.tables refl)) has
 
-pub judged_reason : (above : List Statement) (s : Statement) (old new : Planner) (answer : Option Reason) → HasFacts old (facts_above look_above above) → Judges old s new answer → reason_at look_above above s ≡ answer
-judged_reason above s old new answer has judges =
-    ap (λ (f : Facts). reason_in look_above f s) (sym (same_facts old (facts_above look_above above) has)) ∙ sym judges.reason
+pub judged_reason : (handed : HandedChecks) (above : List Statement) (s : Statement) (old new : Planner) (answer : Option Reason) → old.handed ≡ handed → HasFacts old (facts_above (look_above handed) above) → Judges old s new answer → reason_at (look_above handed) above s ≡ answer
+judged_reason handed above s old new answer same has judges = subst (λ (h : HandedChecks). HasFacts old (facts_above (look_above h) above) → reason_at (look_above h) above s ≡ answer) same
+    (λ here. ap (λ (f : Facts). reason_in (look_above old.handed) f s) (sym (same_facts old (facts_above (look_above old.handed) above) here)) ∙ sym judges.reason) has
 
 pub upward_append : (before : List Item) (item : Item) (after : List Item) → upward (before ++ item ∷ after) ≡ upward after ++ item.statement ∷ upward before
 upward_append before item after =

@@ -1,10 +1,11 @@
 -- What one more statement adds to the facts above.
-use Rattle.std.specs.Prelude.{ℕ, ◌+◌, List, [], ◌∷◌, ◌++◌, drop, map, length, option_to_list, unwrap_or}
+use Rattle.std.specs.Prelude.{ℕ, ◌+◌, List, [], ◌∷◌, ◌++◌, drop, map, length, option_to_list}
 use Rattle.rh_task_text.specs.declared.statement.Statement.{Statement}
-use Rattle.rh_task_text.specs.declared.statement.SchemeText.TheVariants.{Plain}
+use Rattle.rh_rules.specs.declared.node.Scheme.TheVariants.{Plain}
 use Rattle.rh_rules.specs.Tables.{put_all, number_of, promise_number}
-use Rattle.rh_rules.specs.Facets.{Turn, Opens, Closes, Stays, facets}
-use Rattle.rh_rules.specs.Above.{Look, seen, OpenBlock, opening_block, puts_by, nodes_by, await_local, local_made, steps_by, Facts}
+use Rattle.rh_rules.specs.Facets.{Opens, Closes, Stays, facets}
+use Rattle.rh_rules.specs.declared.block.OpenBlock.{OpenBlock}
+use Rattle.rh_rules.specs.Above.{Look, seen, opening_block, puts_by, nodes_by, await_local, local_made, steps_by, Facts, scheme_opened, checks_by}
 
 abbrev pub blocks_after : ℕ → List OpenBlock → Statement → List OpenBlock
 blocks_after count around s = elim ((facets s).turn) [
@@ -24,5 +25,6 @@ after look f s = record {
   locals = elim ((facets s).turn) [ Opens ↦ map (await_local (seen look f.promises)) (facets s).task_awaits | Closes ↦ [] | Stays ↦ f.locals ++ local_made f.locals s ];
   drops = elim ((facets s).turn) [ Opens ↦ [] | Closes ↦ [] | Stays ↦ f.drops ++ map (number_of f.locals) (option_to_list (facets s).dropped) ];
   steps = elim ((facets s).turn) [ Opens ↦ [] | Closes ↦ [] | Stays ↦ f.steps ++ steps_by f.promises f.inputs f.locals s ];
-  scheme = elim ((facets s).turn) [ Opens ↦ unwrap_or (facets s).scheme Plain | Closes ↦ Plain | Stays ↦ f.scheme ];
+  scheme = elim ((facets s).turn) [ Opens ↦ scheme_opened s | Closes ↦ Plain | Stays ↦ f.scheme ];
+  checks = elim ((facets s).turn) [ Opens ↦ [] | Closes ↦ [] | Stays ↦ f.checks ++ checks_by look f.promises f.locals s ];
 }

@@ -1,15 +1,19 @@
 -- The reason of a line that uses locals, by the tables of its task.
-use Rattle.std.specs.Prelude.{ℕ, ◌==◌, ◌||◌, List, Bool, Option, Some, None, not, cond, nat_lt, nat_le, is_some, slice_index}
+use Rattle.std.specs.Prelude.{ℕ, ◌==◌, ◌||◌, List, Bool, Option, Some, None, map, not, cond, nat_lt, nat_le, is_some, slice_index}
 use Rattle.std.specs.List.{list_any}
 use Rattle.rh_words.specs.declared.limits.TheConstants.{MAX_PROMISE_WORDS, MAX_NODES}
 use Rattle.rh_words.specs.declared.reason.Reason.{Reason}
 use Rattle.rh_words.specs.declared.reason.Reason.TheVariants as reasons
 use Rattle.rh_task_text.specs.declared.statement.Statement.{Statement}
+use Rattle.rh_task_text.specs.declared.statement.SchemeText.{SchemeText}
 use Rattle.rh_rules.specs.declared.node.PlannedPromise.{PlannedPromise}
-use Rattle.rh_rules.specs.Tables.{LocalName, if_any, is_among, is_in, place_of, is_local, is_promise, is_put}
+use Rattle.rh_rules.specs.Tables.{LocalName, if_any, is_among, is_in, place_of, is_local, number_of, is_promise, is_put}
 use Rattle.rh_rules.specs.Facets.{facets}
-use Rattle.rh_rules.specs.Rules.{are_distinct}
-use Rattle.rh_rules.specs.Above.{lens_used, numbers_used, made_len}
+use Rattle.rh_rules.specs.Rules.{are_distinct, is_among_first, is_bad_scheme, may_check}
+use Rattle.rh_rules.specs.Above.{lens_used, lens_read, made_len, numbers_used}
+use Rattle.rh_rules.specs.Bodies.{promises_put}
+use Rattle.rh_rules.specs.declared.body.Step.{Step}
+use Rattle.rh_rules.specs.declared.node.Scheme.{Scheme}
 
 -- one of the locals that the line uses is not there, or is dropped
 abbrev pub uses_unknown : List LocalName → Statement → Bool
@@ -35,10 +39,30 @@ put_reason p ls drops s =
     (cond (not (slice_index (lens_used ls s) 0 == p.len) || not ((facets s).fits (lens_used ls s))) (Some reasons.Length)
     (cond (uses_dropped ls drops s) (Some reasons.Dropped) None)))
 
--- of a plain task of this name that awaits these, below so many nodes
-abbrev pub task_reason : List (List ℕ) → List PlannedPromise → ℕ → List ℕ → List (List ℕ) → Option Reason
-task_reason names promises count name awaits =
+-- of a task of this name and scheme, or of a group as if it were plain, that awaits these, below so many nodes
+abbrev pub start_reason : List (List ℕ) → List PlannedPromise → ℕ → List ℕ → SchemeText → List (List ℕ) → Option Reason
+start_reason names promises count name scheme awaits =
     cond (is_among name names || not (are_distinct awaits)) (Some reasons.Twice)
     (cond (list_any (λ q. not (is_promise promises q)) awaits) (Some reasons.Unknown)
     (cond (list_any (λ q. not (is_put promises q)) awaits) (Some reasons.Order)
-    (cond (nat_le MAX_NODES count) (Some reasons.PlanLimit) None)))
+    (cond (is_bad_scheme scheme) (Some reasons.Scheme)
+    (cond (nat_le MAX_NODES count) (Some reasons.PlanLimit) None))))
+
+-- one of the awaits that a check reads is none of so many first locals, or is dropped
+abbrev pub reads_unknown : ℕ → List LocalName → Statement → Bool
+reads_unknown n ls s = list_any (λ q. not (is_among_first n ls q)) (facets s).inputs
+
+abbrev pub reads_dropped : List LocalName → List ℕ → Statement → Bool
+reads_dropped ls drops s = list_any (λ q. if_any (λ i. is_in i drops) (place_of q ls)) (facets s).inputs
+
+-- the numbers of the awaits that a check reads
+abbrev pub numbers_read : List LocalName → Statement → List ℕ
+numbers_read ls s = map (number_of ls) (facets s).inputs
+
+-- of a check of the promise of this number and length in a task of these steps and this scheme that awaits so many promises
+abbrev pub check_reason : ℕ → ℕ → List Step → Scheme → ℕ → List LocalName → List ℕ → Statement → Option Reason
+check_reason number len body scheme n ls drops s =
+    cond (not (is_in number (promises_put body)) || reads_unknown n ls s) (Some reasons.Unknown)
+    (cond (not ((facets s).suits len (lens_read ls s))) (Some reasons.Length)
+    (cond (not (may_check scheme)) (Some reasons.Scheme)
+    (cond (reads_dropped ls drops s) (Some reasons.Dropped) None)))

@@ -1,34 +1,30 @@
 -- Which texts keep the rules, what they are planned as, and where a text first breaks one.
-use Rattle.std.specs.Prelude.{ℕ, ◌≡◌, List, [], ◌∷◌, ◌++◌, Some, false, slice_get}
+use Rattle.std.specs.Prelude.{ℕ, ◌≡◌, List, [], ◌∷◌, ◌++◌, Some, false}
 use Rattle.rh_words.specs.declared.reason.Reason.{Reason}
 use Rattle.rh_task_text.specs.declared.statement.Item.{Item}
 use Rattle.rh_task_text.specs.Program.{ProgramText, upward}
+use Rattle.rh_check.specs.Users.{HandedChecks}
 use Rattle.rh_rules.specs.declared.node.Node.{Node}
-use Rattle.rh_rules.specs.declared.node.Scheme.TheVariants as schemes
 use Rattle.rh_rules.specs.declared.node.PlannedPromise.{PlannedPromise}
 use Rattle.rh_rules.specs.Above.{Look, promises_above, nodes_above}
 use Rattle.rh_rules.specs.Rules.{reason_at, AllKeep}
 
--- an await list looks at the lines above it alone
-abbrev pub look_above : Look
-look_above = record { forward = false; promises = [] }
+-- an await list looks at the lines above it alone, and a check at these handed-in ones
+abbrev pub look_above : HandedChecks → Look
+look_above handed = record { forward = false; promises = []; handed = handed }
 
--- Each statement of the text keeps the rules, and these are its nodes and promises, each by its number.
-pub record IsDraftOf (text : ProgramText) (ns : List Node) (ps : List PlannedPromise) : Type 0 where
-  pub kept : AllKeep look_above (upward text.items)
-  pub nodes : ns ≡ nodes_above look_above (upward text.items)
+-- Each statement of the text keeps the rules, with these handed-in checks, and these are its nodes and promises, each by its number.
+pub record IsDraftOf (handed : HandedChecks) (text : ProgramText) (ns : List Node) (ps : List PlannedPromise) : Type 0 where
+  pub kept : AllKeep (look_above handed) (upward text.items)
+  pub nodes : ns ≡ nodes_above (look_above handed) (upward text.items)
   pub promises : ps ≡ promises_above (upward text.items)
 
--- each node is run by the plain scheme, with no checks
-abbrev pub ArePlain : List Node → Type 0
-ArePlain ns = (v : ℕ) (node : Node) → slice_get ns v ≡ Some node → (node.scheme ≡ schemes.Plain) × (node.checks ≡ [])
-
 -- The first item that breaks a rule, given those before it, has this line, and this is the first reason that holds there.
-pub record FirstBreak (text : ProgramText) (line : ℕ) (reason : Reason) : Type 0 where
+pub record FirstBreak (handed : HandedChecks) (text : ProgramText) (line : ℕ) (reason : Reason) : Type 0 where
   pub before : List Item
   pub item : Item
   pub after : List Item
   pub whole : text.items ≡ before ++ item ∷ after
-  pub kept : AllKeep look_above (upward before)
-  pub broken : reason_at look_above (upward before) item.statement ≡ Some reason
+  pub kept : AllKeep (look_above handed) (upward before)
+  pub broken : reason_at (look_above handed) (upward before) item.statement ≡ Some reason
   pub at : line ≡ item.line

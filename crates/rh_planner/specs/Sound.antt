@@ -4,14 +4,23 @@ use Rattle.rh_words.specs.declared.limits.TheConstants.{MAX_NODES, MAX_AWAITS}
 use Rattle.rh_task_text.specs.declared.statement.Statement.{Statement}
 use Rattle.rh_task_text.specs.declared.form.Block.{Block}
 use Rattle.rh_task_text.specs.declared.form.Block.TheVariants as text
-use Rattle.rh_task_text.specs.Blocks.{open_blocks, lets_here}
-use Rattle.rh_task_text.specs.declared.statement.SchemeText.TheVariants.{Plain}
-use Rattle.rh_rules.specs.Above.{OpenBlock, TaskBlock, Facts}
+use Rattle.rh_task_text.specs.Blocks.{open_blocks, lets_here, checks_here}
+use Rattle.rh_rules.specs.declared.block.OpenBlock.{OpenBlock}
+use Rattle.rh_rules.specs.declared.block.OpenBlock.TheVariants.{TaskBlock, MatrixBlock, GroupBlock, ScopeBlock}
+use Rattle.rh_rules.specs.Above.{Facts}
+use Rattle.rh_rules.specs.declared.node.Scheme.TheVariants.{Plain, Replicate, Replay, Abft}
+use Rattle.rh_rules.specs.declared.node.Scheme.{Scheme}
 
--- no block is open, or one task
+-- scopes and groups are open, and no other block
+pub data AreOuter : List Block → List OpenBlock → Type 0 where
+  none_open : AreOuter [] []
+  group_open : (number : ℕ) (bs : List Block) (obs : List OpenBlock) → AreOuter bs obs → AreOuter (text.ScopeBlock ∷ bs) (GroupBlock number ∷ obs)
+  scope_open : (name : List ℕ) (first : ℕ) (bs : List Block) (obs : List OpenBlock) → AreOuter bs obs → AreOuter (text.ScopeBlock ∷ bs) (ScopeBlock name first ∷ obs)
+
+-- and maybe one task in them
 pub data AreBlocks : List Block → List OpenBlock → Type 0 where
-  none_open : AreBlocks [] []
-  task_open : (name : List ℕ) → AreBlocks (text.TaskBlock ∷ []) (TaskBlock name ∷ [])
+  outer_open : (bs : List Block) (obs : List OpenBlock) → AreOuter bs obs → AreBlocks bs obs
+  task_open : (name : List ℕ) (bs : List Block) (obs : List OpenBlock) → AreOuter bs obs → AreBlocks (text.TaskBlock ∷ bs) (TaskBlock name ∷ obs)
 
 -- nothing is said of an open task
 pub record IsIdle (f : Facts) : Type 0 where
@@ -19,17 +28,39 @@ pub record IsIdle (f : Facts) : Type 0 where
   pub locals : f.locals ≡ []
   pub drops : f.drops ≡ []
   pub steps : f.steps ≡ []
+  pub checks : f.checks ≡ []
 
+-- outside of tasks nothing is said of an open one
 abbrev pub IsIdleIn : List OpenBlock → Facts → Type 0
 IsIdleIn [] f = IsIdle f
-IsIdleIn (block ∷ blocks) f = ⊤
+IsIdleIn (TaskBlock name ∷ blocks) f = ⊤
+IsIdleIn (GroupBlock number ∷ blocks) f = IsIdle f
+IsIdleIn (ScopeBlock name first ∷ blocks) f = IsIdle f
+IsIdleIn (MatrixBlock ∷ blocks) f = IsIdle f
 
--- Facts are counted: there is room for the node of the open task, and the locals are the awaits and the results of `let` lines.
+-- how many nodes have their opening line above, and are not counted yet: the open task
+abbrev pub nodes_open : List OpenBlock → ℕ
+nodes_open [] = 0
+nodes_open (TaskBlock name ∷ blocks) = 1
+nodes_open (GroupBlock number ∷ blocks) = 0
+nodes_open (ScopeBlock name first ∷ blocks) = 0
+nodes_open (MatrixBlock ∷ blocks) = 0
+
+-- a task of this scheme is planned
+abbrev pub IsPlannedScheme : Scheme → Type 0
+IsPlannedScheme Plain = ⊤
+IsPlannedScheme Replicate = ⊤
+IsPlannedScheme (Replay limit) = (1 ≤ limit) × (limit ≤ 8)
+IsPlannedScheme Abft = ⊥
+
+-- Facts are counted: there is room for the node of the open task, the locals are the awaits and the results of `let` lines, and there are no
+-- more checks than `check` lines.
 pub record AreCounted (above : List Statement) (f : Facts) : Type 0 where
   pub blocks : AreBlocks (open_blocks above) f.blocks
   pub counted : length f.nodes ≡ f.count
-  pub room : f.count + length f.blocks ≤ MAX_NODES
+  pub room : f.count + nodes_open f.blocks ≤ MAX_NODES
   pub inputs : length f.inputs ≤ MAX_AWAITS
   pub locals : length f.locals ≤ length f.inputs + lets_here above
   pub idle : IsIdleIn f.blocks f
-  pub scheme : f.scheme ≡ Plain
+  pub scheme : IsPlannedScheme f.scheme
+  pub checks : length f.checks ≤ checks_here above

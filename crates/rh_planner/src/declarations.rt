@@ -94,21 +94,27 @@ impl Declared {
     }
 
     /// Whether one more promise goes beyond a limit.
-    pub fn is_over(&self, len: u32, temp: bool) -> bool
+    pub fn is_over(&self, len: u32, temp: bool, scope: bool) -> bool
         requires { len ≤ 4096 }
-        ensures { result ≡ is_promise_over self.now.promises (declared_promise [] len temp false) }
+        ensures { result ≡ is_promise_over self.now.promises (declared_promise [] len temp scope) }
     {
         self.promises.len() >= MAX_PROMISES
             || self.words + u64::from(len) > MAX_TOTAL_WORDS
-            || self.shown + shown_words(len, temp) > MAX_SHOWN_WORDS
+            || self.shown + shown_words(len, temp, scope) > MAX_SHOWN_WORDS
     }
 
     /// Adds a promise, which is within the limits.
-    pub fn add_promise(&mut self, name: Name, len: u32, temp: bool) -> Result<(), OutOfMemory>
+    pub fn add_promise(
+        &mut self,
+        name: Name,
+        len: u32,
+        temp: bool,
+        scope: bool,
+    ) -> Result<(), OutOfMemory>
         requires fresh { is_among name self.old.names ≡ false }
         requires short { len ≤ 4096 }
-        requires room { is_promise_over self.old.promises (declared_promise [] len temp false) ≡ false }
-        ensures { OnOk result (self.new ≡ declarations (self.old.names ++ name ∷ []) (self.old.promises ++ declared_promise name len temp false ∷ [])) }
+        requires room { is_promise_over self.old.promises (declared_promise [] len temp scope) ≡ false }
+        ensures { OnOk result (self.new ≡ declarations (self.old.names ++ name ∷ []) (self.old.promises ++ declared_promise name len temp scope ∷ [])) }
     {
         keys_tell_names_apart();
         let _is_name = name.bytes();
@@ -118,12 +124,12 @@ impl Declared {
             len,
             putter: None,
             temp,
-            scope: false,
+            scope,
         })?;
         match note(&mut self.names, &mut self.known, name, Some(number)) {
             Ok(()) => {
                 self.words += u64::from(len);
-                self.shown += shown_words(len, temp);
+                self.shown += shown_words(len, temp, scope);
                 Ok(())
             }
             Err(fault) => {
@@ -145,10 +151,10 @@ impl Declared {
 }
 
 /// How many words of a declared promise a report shows.
-fn shown_words(len: u32, temp: bool) -> u64
-    ensures { result ≡ cond (not temp && not false) len 0 }
+fn shown_words(len: u32, temp: bool, scope: bool) -> u64
+    ensures { result ≡ cond (not temp && not scope) len 0 }
 {
-    if temp { 0 } else { u64::from(len) }
+    if temp || scope { 0 } else { u64::from(len) }
 }
 
 /// Adds a name with its number, or nothing where there is no memory.

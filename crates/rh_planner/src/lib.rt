@@ -4,7 +4,9 @@
 #![tactic(auto)]
 
 mod awaiting;
+mod blocks;
 mod declarations;
+mod handed;
 mod laws;
 mod node;
 mod open_task;

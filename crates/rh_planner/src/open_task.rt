@@ -6,12 +6,15 @@ ghost use Rattle.rh_words.specs.declared.limits.TheConstants.{MAX_AWAITS, MAX_LE
 ghost use Rattle.rh_rules.specs.Tables.{is_in};
 ghost use Rattle.rh_rules.specs.Facets.{facets};
 ghost use Rattle.rh_rules.specs.Limits.{IsWithinLimits};
-ghost use Rattle.rh_rules.specs.Above.{numbers_used, lens_used, local_made};
-ghost use Rattle.rh_planner.specs.Making.{let_reason, put_reason, uses_unknown};
+ghost use Rattle.rh_rules.specs.Above.{numbers_used, lens_used, lens_read, local_made};
+ghost use Rattle.rh_rules.specs.Bodies.{promises_put, put_at};
+ghost use Rattle.rh_rules.specs.Rules.{may_check};
+ghost use Rattle.rh_planner.specs.Making.{let_reason, put_reason, check_reason, uses_unknown, reads_unknown, numbers_read};
 
-use crate::used::look_up;
+use crate::used::{find_awaits, look_up};
 use rh_rules::{
-    Body, Local, Numbers, PlannedPromise, fits, list_used, made_len, place_of, step_of,
+    Body, CheckList, Local, Numbers, PlannedPromise, Scheme, Step, fits, list_inputs, list_used,
+    made_len, place_of, step_of, suits,
 };
 use rh_task_text::Statement;
 use rh_words::limits::MAX_PROMISE_WORDS;
@@ -27,6 +30,8 @@ pub struct OpenTask {
     /// The numbers of the locals that it drops.
     pub drops: Vec<u32>,
     pub body: Body,
+    pub scheme: Scheme,
+    pub checks: CheckList,
     /// What the last line uses: names, numbers and lengths of locals.
     pub names: Vec<Name>,
     pub numbers: Vec<u32>,
@@ -40,16 +45,37 @@ impl OpenTask {
         ensures locals { result.locals.items ≡ [] }
         ensures drops { result.drops.items ≡ [] }
         ensures body { result.body ≡ [] }
+        ensures scheme { result.scheme ≡ Scheme.Plain }
+        ensures checks { result.checks ≡ [] }
     {
         OpenTask {
             inputs: Numbers::new(alloc),
             locals: Vec::new(alloc),
             drops: Vec::new(alloc),
             body: Body::new(alloc),
+            scheme: Scheme::Plain,
+            checks: CheckList::new(alloc),
             names: Vec::new(alloc),
             numbers: Vec::new(alloc),
             lens: Vec::new(alloc),
         }
+    }
+
+    /// Forgets the task.
+    pub fn clear(&mut self, alloc: Global)
+        ensures inputs { self.new.inputs ≡ [] }
+        ensures locals { self.new.locals.items ≡ [] }
+        ensures drops { self.new.drops.items ≡ [] }
+        ensures body { self.new.body ≡ [] }
+        ensures scheme { self.new.scheme ≡ Scheme.Plain }
+        ensures checks { self.new.checks ≡ [] }
+    {
+        self.inputs = Numbers::new(alloc);
+        self.locals.clear();
+        self.drops.clear();
+        self.body = Body::new(alloc);
+        self.scheme = Scheme::Plain;
+        self.checks = CheckList::new(alloc);
     }
 
     /// Looks up the locals that the statement uses. Whether all are there.
@@ -62,6 +88,8 @@ impl OpenTask {
         ensures locals { self.new.locals ≡ self.old.locals }
         ensures drops { self.new.drops ≡ self.old.drops }
         ensures body { self.new.body ≡ self.old.body }
+        ensures scheme { self.new.scheme ≡ self.old.scheme }
+        ensures checks { self.new.checks ≡ self.old.checks }
     {
         self.names.clear();
         list_used(statement, &mut self.names)?;
@@ -91,6 +119,8 @@ impl OpenTask {
         ensures locals { self.new.locals ≡ self.old.locals }
         ensures drops { self.new.drops ≡ self.old.drops }
         ensures body { self.new.body ≡ self.old.body }
+        ensures scheme { self.new.scheme ≡ self.old.scheme }
+        ensures checks { self.new.checks ≡ self.old.checks }
     {
         if place_of(&self.locals, x).is_some() {
             return Ok(Some(Reason::Twice));
@@ -123,6 +153,8 @@ impl OpenTask {
         ensures reason { IfOk result (λ answer. answer ≡ let_reason self.old.locals.items self.old.drops.items x statement.now) }
         ensures inputs { self.new.inputs ≡ self.old.inputs }
         ensures drops { self.new.drops ≡ self.old.drops }
+        ensures scheme { self.new.scheme ≡ self.old.scheme }
+        ensures checks { self.new.checks ≡ self.old.checks }
         ensures locals { IfOk result (λ answer. answer ≡ None → self.new.locals.items ≡ self.old.locals.items ++ local_made self.old.locals.items statement.now) }
         ensures steps { IfOk result (λ answer. answer ≡ None → self.new.body ≡ self.old.body ++ option_to_list ((facets statement.now).step (numbers_used self.old.locals.items statement.now))) }
     {
@@ -153,6 +185,8 @@ impl OpenTask {
         ensures locals { self.new.locals ≡ self.old.locals }
         ensures drops { self.new.drops ≡ self.old.drops }
         ensures body { self.new.body ≡ self.old.body }
+        ensures scheme { self.new.scheme ≡ self.old.scheme }
+        ensures checks { self.new.checks ≡ self.old.checks }
     {
         if !self.look_up(statement)? {
             return Ok(Some(Reason::Unknown));
@@ -167,6 +201,101 @@ impl OpenTask {
             return Ok(Some(Reason::Dropped));
         }
         Ok(None)
+    }
+
+    /// Looks up the awaits that the check reads. Whether all are there.
+    fn look_up_inputs(&mut self, statement: &Statement) -> Result<bool, OutOfMemory>
+        requires few { length self.old.locals.items ≤ MAX_AWAITS + MAX_LETS }
+        requires built { (facets statement.now).built ≡ true }
+        ensures known { IfOk result (λ known. known ≡ not (reads_unknown (length self.old.inputs) self.old.locals.items statement.now)) }
+        ensures numbers { IfOk result (λ known. known ≡ true → self.new.numbers.items ≡ numbers_read self.old.locals.items statement.now) }
+        ensures lens { IfOk result (λ known. known ≡ true → self.new.lens.items ≡ lens_read self.old.locals.items statement.now) }
+        ensures inputs { self.new.inputs ≡ self.old.inputs }
+        ensures locals { self.new.locals ≡ self.old.locals }
+        ensures drops { self.new.drops ≡ self.old.drops }
+        ensures body { self.new.body ≡ self.old.body }
+        ensures scheme { self.new.scheme ≡ self.old.scheme }
+        ensures checks { self.new.checks ≡ self.old.checks }
+    {
+        self.names.clear();
+        list_inputs(statement, &mut self.names)?;
+        let count = self.inputs.as_slice().len();
+        find_awaits(
+            count,
+            &self.locals,
+            &self.names,
+            &mut self.numbers,
+            &mut self.lens,
+        )
+    }
+
+    /// Why a check of the promise of this number and length is refused. Where it is not, what it reads is looked up and fits.
+    #[tactic(auto, using(crate::proofs::Reading::reads_dropped_numbers))]
+    pub fn check_reason(
+        &mut self,
+        promise: u32,
+        len: u32,
+        statement: &Statement,
+    ) -> Result<Option<Reason>, OutOfMemory>
+        requires few { length self.old.locals.items ≤ MAX_AWAITS + MAX_LETS }
+        requires built { (facets statement.now).built ≡ true }
+        ensures reason { IfOk result (λ answer. answer ≡ check_reason promise len self.old.body self.old.scheme (length self.old.inputs) self.old.locals.items self.old.drops.items statement.now) }
+        ensures numbers { IfOk result (λ answer. answer ≡ None → self.new.numbers.items ≡ numbers_read self.old.locals.items statement.now) }
+        ensures lens { IfOk result (λ answer. answer ≡ None → self.new.lens.items ≡ lens_read self.old.locals.items statement.now) }
+        ensures suits { IfOk result (λ answer. answer ≡ None → (facets statement.now).suits len self.new.lens.items ≡ true) }
+        ensures inputs { self.new.inputs ≡ self.old.inputs }
+        ensures locals { self.new.locals ≡ self.old.locals }
+        ensures drops { self.new.drops ≡ self.old.drops }
+        ensures body { self.new.body ≡ self.old.body }
+        ensures scheme { self.new.scheme ≡ self.old.scheme }
+        ensures checks { self.new.checks ≡ self.old.checks }
+    {
+        if !is_put_in(self.body.steps(), promise) || !self.look_up_inputs(statement)? {
+            return Ok(Some(Reason::Unknown));
+        }
+        if !suits(statement, len, &self.lens) {
+            return Ok(Some(Reason::Length));
+        }
+        if !may_check(self.scheme) {
+            return Ok(Some(Reason::Scheme));
+        }
+        if self.is_any_dropped() {
+            return Ok(Some(Reason::Dropped));
+        }
+        Ok(None)
+    }
+}
+
+/// Whether one of the steps puts the promise of this number.
+fn is_put_in(steps: &[Step], promise: u32) -> bool
+    ensures { result ≡ is_in promise (promises_put steps.now) }
+{
+    is_any_put(steps, promise)
+}
+
+fn is_any_put(steps: &[Step], promise: u32) -> bool
+    ensures { result ≡ list_any (λ s. is_in promise (put_at s)) steps.now }
+{
+    steps.iter().any(|step| is_put_of(step, promise))
+}
+
+/// Whether the step puts the promise of this number.
+fn is_put_of(step: &Step, promise: u32) -> bool
+    ensures { result ≡ is_in promise (put_at step.now) }
+{
+    match step {
+        Step::Put { promise: put, .. } => *put == promise,
+        _ => false,
+    }
+}
+
+/// Whether tasks of this scheme may have checks.
+fn may_check(scheme: Scheme) -> bool
+    ensures { result ≡ may_check scheme }
+{
+    match scheme {
+        Scheme::Replay { .. } | Scheme::Abft => true,
+        Scheme::Plain | Scheme::Replicate => false,
     }
 }
 

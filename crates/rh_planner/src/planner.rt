@@ -1,46 +1,59 @@
 //! Planning a text line by line: its names become numbers.
 
-ghost use Rattle.std.specs.Prelude.{◌≡◌, ◌<◌, ◌≤◌, [], IfOk, Some, None, length, map, true, false, not, slice_get, slice_index};
+ghost use Rattle.std.specs.Prelude.{◌≡◌, ◌<◌, ◌≤◌, ◌++◌, ◌∷◌, [], IfOk, OnOk, Some, None, cond, length, map, true, false, not, slice_get, slice_index};
 ghost use Rattle.rh_words.specs.declared.limits.TheConstants.{MAX_PROMISE_WORDS, MAX_NODES};
 ghost use Rattle.rh_task_text.specs.declared.statement.Statement.TheVariants as text;
-ghost use Rattle.rh_rules.specs.Facets.{facets};
+ghost use Rattle.rh_rules.specs.Facets.{facets, is_built_scheme};
 ghost use Rattle.rh_rules.specs.Limits.{IsWithinLimits};
-ghost use Rattle.rh_rules.specs.Above.{facts_above};
-ghost use Rattle.rh_rules.specs.Tables.{is_promise, promise_number};
-ghost use Rattle.rh_planner.specs.Making.{task_reason};
+ghost use Rattle.rh_rules.specs.Above.{facts_above, planned_scheme, asked_place, group_in, lets_of, task_node, scope_node};
+ghost use Rattle.rh_rules.specs.Rules.{is_bad_scheme, is_unanswered};
+ghost use Rattle.rh_rules.specs.Tables.{is_promise, promise_number, is_put, putting, put_all};
+ghost use Rattle.rh_planner.specs.Declarations.{declarations};
+ghost use Rattle.rh_planner.specs.Making.{start_reason};
 ghost use Rattle.rh_planner.specs.Planned.{look_above};
 ghost use Rattle.std.specs.List.{list_any};
-ghost use Rattle.rh_planner.specs.States.{HasFacts, HasRoom, IsFree, Judges};
+ghost use Rattle.rh_planner.specs.States.{HasFacts, HasRoom, IsClosable, Judges};
 
 use crate::awaiting::{are_distinct, await_locals, find_promises, is_any_unput};
+use crate::blocks::Blocks;
 use crate::declarations::Declared;
-use crate::node::task_node;
+use crate::handed::Handed;
+use crate::node::{group_node, lets_of, scope_node, task_node};
 use crate::open_task::OpenTask;
-use rh_rules::{Body, Node, Numbers, PlannedPromise, Step, place_of};
+use rh_rules::{
+    Body, CheckList, Node, Numbers, OpenBlock, PlannedCheck, PlannedPromise, Scheme, Step, asked,
+    place_of, spec_of,
+};
 use rh_task_text::{SchemeText, Statement};
 use rh_words::limits::MAX_NODES;
 use rh_words::{Name, NameList, OutOfMemory, Reason};
 use std::alloc::Global;
 use std::mem;
 
+/// How many words the own promise of a scope has: the numbers of its accepted, failed and skipped tasks.
+const SCOPE_WORDS: u32 = 3;
+
 /// What is planned of the statements so far.
 #[derive(Drop)]
 pub struct Planner {
+    handed: Handed,
     declared: Declared,
     nodes: Vec<Node>,
-    /// The name of the open task.
-    task_name: Option<Name>,
+    blocks: Blocks,
     task: OpenTask,
 }
 
 impl Planner {
-    pub fn new(alloc: Global) -> Planner
-        ensures { HasFacts result (facts_above look_above []) }
+    /// Nothing is planned yet, with these handed-in checks.
+    pub fn new(alloc: Global, handed: Handed) -> Planner
+        ensures tables { HasFacts result (facts_above (look_above handed) []) }
+        ensures handed { result.handed ≡ handed }
     {
         Planner {
+            handed,
             declared: Declared::new(alloc),
             nodes: Vec::new(alloc),
-            task_name: None,
+            blocks: Blocks::new(alloc),
             task: OpenTask::none(alloc),
         }
     }
@@ -51,9 +64,10 @@ impl Planner {
         ensures promises { result.1.items ≡ self.declared.promises }
     {
         let Planner {
+            handed: _,
             declared,
             nodes,
-            task_name: _,
+            blocks: _,
             task: _,
         } = self;
         (nodes, declared.into_promises())
@@ -67,10 +81,10 @@ impl Planner {
         if self.declared.has(&name) {
             return Ok(Some(Reason::Twice));
         }
-        if self.declared.is_over(len as u32, temp) {
+        if self.declared.is_over(len as u32, temp, false) {
             return Ok(Some(Reason::PlanLimit));
         }
-        self.declared.add_promise(name, len as u32, temp)?;
+        self.declared.add_promise(name, len as u32, temp, false)?;
         Ok(None)
     }
 
@@ -109,18 +123,39 @@ impl Planner {
         self.task.make(alloc, x, statement)
     }
 
-    /// Why a task of this name that awaits these is refused. Where it is not, `inputs` are the numbers of what it awaits.
+    /// Opens a scope, whose own promise has three words.
+    #[tactic(auto, unfolding(rh_rules::specs::Facets::facets))]
+    fn finish(&mut self, alloc: Global, name: Name) -> Result<Option<Reason>, OutOfMemory>
+        requires { HasRoom self.old }
+        ensures { IfOk result (λ answer. Judges self.old (text.Finish name) self.new answer) }
+    {
+        if self.declared.has(&name) {
+            return Ok(Some(Reason::Twice));
+        }
+        if self.declared.is_over(SCOPE_WORDS, false, true) {
+            return Ok(Some(Reason::PlanLimit));
+        }
+        self.declared.add_promise(name, SCOPE_WORDS, false, true)?;
+        let first = self.nodes.len() as u32;
+        self.blocks.push(OpenBlock::ScopeBlock { name, first })?;
+        self.task.clear(alloc);
+        Ok(None)
+    }
+
+    /// Why a task of this name and scheme, or a group as if it were plain, that awaits these is refused. Where it is not, `inputs` are the numbers of what it awaits.
     #[tactic(auto, using(crate::proofs::Using::is_put_numbers))]
-    fn task_reason(
+    fn start_reason(
         &self,
         name: &Name,
+        scheme: SchemeText,
         names: &[Name],
         inputs: &mut Numbers,
     ) -> Result<Option<Reason>, OutOfMemory>
         requires { inputs.old ≡ [] }
-        ensures reason { IfOk result (λ answer. answer ≡ task_reason self.now.declared.names self.now.declared.promises (length self.now.nodes.items) name.now names.now) }
+        ensures reason { IfOk result (λ answer. answer ≡ start_reason self.now.declared.names self.now.declared.promises (length self.now.nodes.items) name.now scheme names.now) }
         ensures inputs { IfOk result (λ answer. answer ≡ None → inputs.new ≡ map (promise_number self.now.declared.promises) names.now) }
         ensures known { IfOk result (λ answer. answer ≡ None → list_any (λ q. not (is_promise self.now.declared.promises q)) names.now ≡ false) }
+        ensures schemed { IfOk result (λ answer. answer ≡ None → is_bad_scheme scheme ≡ false) }
     {
         if self.declared.has(name) || !are_distinct(names) {
             return Ok(Some(Reason::Twice));
@@ -130,6 +165,9 @@ impl Planner {
         }
         if is_any_unput(self.declared.promises(), inputs.as_slice()) {
             return Ok(Some(Reason::Order));
+        }
+        if is_bad_scheme(scheme) {
+            return Ok(Some(Reason::Scheme));
         }
         if self.nodes.len() >= MAX_NODES {
             return Ok(Some(Reason::PlanLimit));
@@ -143,15 +181,15 @@ impl Planner {
         &mut self,
         alloc: Global,
         name: Name,
+        scheme: SchemeText,
         awaits: &NameList,
     ) -> Result<Option<Reason>, OutOfMemory>
-        requires room { HasRoom self.old }
-        requires free { self.old.task_name ≡ None }
-        ensures { IfOk result (λ answer. Judges self.old (text.Task name SchemeText.Plain awaits.now) self.new answer) }
+        requires { is_built_scheme scheme ≡ true }
+        ensures { IfOk result (λ answer. Judges self.old (text.Task name scheme awaits.now) self.new answer) }
     {
         let names = awaits.as_slice();
         let mut inputs = Numbers::new(alloc);
-        if let Some(reason) = self.task_reason(&name, names, &mut inputs)? {
+        if let Some(reason) = self.start_reason(&name, scheme, names, &mut inputs)? {
             return Ok(Some(reason));
         }
         let promises = self.declared.promises();
@@ -159,8 +197,39 @@ impl Planner {
         self.task.inputs = inputs;
         self.task.drops.clear();
         self.task.body = Body::new(alloc);
+        self.task.scheme = planned_scheme(scheme);
+        self.task.checks = CheckList::new(alloc);
         self.declared.add_name(name)?;
-        self.task_name = Some(name);
+        self.blocks.push(OpenBlock::TaskBlock(name))?;
+        Ok(None)
+    }
+
+    /// Opens a group, whose awaits look at what stands above.
+    #[tactic(auto, using(crate::proofs::Tasks::reason_group), unfolding(rh_rules::specs::Facets::facets))]
+    fn group(
+        &mut self,
+        alloc: Global,
+        name: Name,
+        awaits: &NameList,
+    ) -> Result<Option<Reason>, OutOfMemory>
+        requires { HasRoom self.old }
+        ensures { IfOk result (λ answer. Judges self.old (text.Group name awaits.now) self.new answer) }
+    {
+        let mut inputs = Numbers::new(alloc);
+        if let Some(reason) = self.start_reason(
+            &name,
+            SchemeText::Plain,
+            awaits.as_slice(),
+            &mut inputs,
+        )? {
+            return Ok(Some(reason));
+        }
+        self.declared.add_name(name)?;
+        let number = self.nodes.len() as u32;
+        let node = group_node(alloc, name, inputs, self.blocks.group());
+        self.nodes.push(node)?;
+        self.blocks.push(OpenBlock::GroupBlock(number))?;
+        self.task.clear(alloc);
         Ok(None)
     }
 
@@ -183,22 +252,94 @@ impl Planner {
         Ok(None)
     }
 
-    /// Closes the open task.
+    /// Plans a check of the promise.
+    fn check(
+        &mut self,
+        statement: &Statement,
+        promise: &Name,
+    ) -> Result<Option<Reason>, OutOfMemory>
+        requires room { HasRoom self.old }
+        requires within { IsWithinLimits statement.now }
+        requires built { (facets statement.now).built ≡ true }
+        requires checks { (facets statement.now).checked ≡ Some promise.now }
+        ensures { IfOk result (λ answer. Judges self.old statement.now self.new answer) }
+    {
+        let Some(number) = self.declared.promise(promise) else {
+            return Ok(Some(Reason::Unknown));
+        };
+        let len = self.declared.promises()[number as usize].len;
+        if let Some(reason) = self.task.check_reason(number, len, statement)? {
+            return Ok(Some(reason));
+        }
+        let Some(place) = asked_place(&self.handed, statement) else {
+            return Ok(Some(Reason::NoCheck));
+        };
+        let spec = spec_of(statement, place, &self.task.numbers, len, &self.task.lens);
+        let user = self.handed.named(&spec);
+        let check = PlannedCheck {
+            promise: number,
+            spec,
+        };
+        self.task.checks.push(check, user)?;
+        Ok(None)
+    }
+
+    /// Closes the innermost block. A task and a scope that end are nodes.
     #[tactic(auto, unfolding(rh_rules::specs::Facets::facets))]
     fn end(&mut self, alloc: Global) -> Result<Option<Reason>, OutOfMemory>
-        requires { HasRoom self.old }
+        requires room { HasRoom self.old }
+        requires closable { IsClosable self.old.declared.promises self.old.blocks }
         ensures { IfOk result (λ answer. Judges self.old text.End self.new answer) }
     {
+        let block = self.blocks.pop();
+        match &block {
+            Some(OpenBlock::TaskBlock(name)) => self.end_task(alloc, *name)?,
+            Some(OpenBlock::ScopeBlock { name, first }) => {
+                if self.nodes.len() >= MAX_NODES {
+                    return Ok(Some(Reason::PlanLimit));
+                }
+                self.end_scope(alloc, *name, *first)?;
+            }
+            _ => {}
+        }
+        self.task.clear(alloc);
+        Ok(None)
+    }
+
+    /// Adds the node of the task, which ends.
+    fn end_task(&mut self, alloc: Global, name: Name) -> Result<(), OutOfMemory>
+        ensures nodes { OnOk result (self.new.nodes.items ≡ self.old.nodes.items ++ task_node name self.old.task.scheme self.old.task.inputs (lets_of self.old.task.inputs self.old.task.locals.items) (group_in self.old.blocks) self.old.task.body self.old.task.checks ∷ []) }
+        ensures blocks { self.new.blocks ≡ self.old.blocks }
+        ensures declared { self.new.declared ≡ self.old.declared }
+        ensures handed { self.new.handed ≡ self.old.handed }
+    {
+        let lets = lets_of(alloc, self.task.inputs.as_slice(), &self.task.locals)?;
         let inputs = mem::replace(&mut self.task.inputs, Numbers::new(alloc));
         let body = mem::replace(&mut self.task.body, Body::new(alloc));
-        self.task.locals.clear();
-        self.task.drops.clear();
-        let Some(name) = self.task_name.take() else {
-            return Ok(None);
-        };
-        let node = task_node(alloc, name, inputs, body)?;
+        let checks = mem::replace(&mut self.task.checks, CheckList::new(alloc));
+        let scheme = self.task.scheme;
+        let group = self.blocks.group();
+        let node = task_node(alloc, name, scheme, inputs, lets, group, body, checks)?;
         self.nodes.push(node)?;
-        Ok(None)
+        Ok(())
+    }
+
+    /// Adds the node of the scope, which ends and puts its own promise.
+    fn end_scope(&mut self, alloc: Global, name: Name, first: u32) -> Result<(), OutOfMemory>
+        requires few { length self.old.nodes.items ≤ MAX_NODES }
+        requires own { is_promise self.old.declared.promises name ≡ true }
+        requires unput { is_put self.old.declared.promises name ≡ false }
+        ensures nodes { OnOk result (self.new.nodes.items ≡ self.old.nodes.items ++ scope_node name (promise_number self.old.declared.promises name) (group_in self.old.blocks) first (length self.old.nodes.items) ∷ []) }
+        ensures blocks { self.new.blocks ≡ self.old.blocks }
+        ensures declared { self.new.declared ≡ declarations self.old.declared.names (put_all (putting name (length self.old.nodes.items) ∷ []) self.old.declared.promises) }
+        ensures handed { self.new.handed ≡ self.old.handed }
+    {
+        let number = self.nodes.len() as u32;
+        let own = self.declared.promise(&name).unwrap_or(0);
+        self.declared.put(own, number);
+        let node = scope_node(alloc, name, own, self.blocks.group(), first, number)?;
+        self.nodes.push(node)?;
+        Ok(())
     }
 }
 
@@ -212,16 +353,22 @@ impl Planner {
     ) -> Result<Option<Reason>, OutOfMemory>
         requires room { HasRoom self.old }
         requires within { IsWithinLimits statement.now }
-        requires free { IsFree self.old.task_name statement.now }
+        requires closable { IsClosable self.old.declared.promises self.old.blocks }
         ensures { IfOk result (λ answer. Judges self.old statement.now self.new answer) }
     {
         match statement {
             Statement::Promise { name, len, temp } => self.promise(*name, *len, *temp),
             Statement::Task {
+                scheme: SchemeText::Abft,
+                ..
+            } => Ok(Some(Reason::NotBuilt)),
+            Statement::Task {
                 name,
-                scheme: SchemeText::Plain,
+                scheme,
                 awaits,
-            } => self.task(alloc, *name, awaits),
+            } => self.task(alloc, *name, *scheme, awaits),
+            Statement::Finish { name } => self.finish(alloc, *name),
+            Statement::Group { name, awaits } => self.group(alloc, *name, awaits),
             Statement::End => self.end(alloc),
             Statement::Put { promise, .. } => self.put(statement, promise),
             Statement::DropAwait { promise } => self.drop_await(promise),
@@ -235,9 +382,52 @@ impl Planner {
             | Statement::LetCut { x, .. }
             | Statement::LetJoin { x, .. }
             | Statement::LetSum { x, .. }
-            | Statement::LetCount { x, .. } => self.make(alloc, *x, statement),
+            | Statement::LetCount { x, .. }
+            | Statement::LetStencil1 { x, .. }
+            | Statement::LetStencil2 { x, .. } => self.make(alloc, *x, statement),
+            Statement::CheckRange { promise, .. }
+            | Statement::CheckTotal { promise, .. }
+            | Statement::CheckLinear { promise, .. }
+            | Statement::CheckConserve { promise, .. }
+            | Statement::CheckConserve2 { promise, .. }
+            | Statement::CheckUser { promise, .. } => self.check(statement, promise),
             _ => Ok(Some(Reason::NotBuilt)),
         }
+    }
+}
+
+/// Whether no task may have the scheme.
+fn is_bad_scheme(scheme: SchemeText) -> bool
+    ensures { result ≡ is_bad_scheme scheme }
+{
+    match scheme {
+        SchemeText::Replay { limit } => limit == 0 || limit > 8,
+        SchemeText::Plain | SchemeText::Replicate | SchemeText::Abft => false,
+    }
+}
+
+/// The scheme of a task.
+fn planned_scheme(scheme: SchemeText) -> Scheme
+    requires { is_bad_scheme scheme ≡ false }
+    ensures { result ≡ planned_scheme scheme }
+{
+    match scheme {
+        SchemeText::Plain => Scheme::Plain,
+        SchemeText::Replicate => Scheme::Replicate,
+        SchemeText::Replay { limit } => Scheme::Replay {
+            limit: limit as u32,
+        },
+        SchemeText::Abft => Scheme::Abft,
+    }
+}
+
+/// The place of the handed-in check that the check names, or 0 where it names none. It is `None` where none has the name.
+fn asked_place(handed: &Handed, statement: &Statement) -> Option<u32>
+    ensures { result ≡ cond (is_unanswered handed.now statement.now) None (Some (asked_place handed.now statement.now)) }
+{
+    match asked(statement) {
+        Some(name) => handed.place(&name),
+        None => Some(0),
     }
 }
 

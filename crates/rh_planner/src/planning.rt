@@ -1,25 +1,27 @@
 //! Planning a whole text.
 
-ghost use Rattle.std.specs.Prelude.{IfOk};
+ghost use Rattle.std.specs.Prelude.{IfOk, []};
 ghost use Rattle.rh_words.specs.Refusals.{OnRefused};
 ghost use Rattle.rh_rules.specs.Lawful.{AreLawful};
-ghost use Rattle.rh_planner.specs.Planned.{IsDraftOf, ArePlain, FirstBreak};
+ghost use Rattle.rh_check.specs.Users.{handed_checks};
+ghost use Rattle.rh_planner.specs.Planned.{IsDraftOf, FirstBreak};
 
+use crate::handed::Handed;
 use crate::planned::Drafts;
 use crate::planner::Planner;
+use rh_check::Checks;
 use rh_task_text::{Text, lawful_texts_keep_their_limits};
 use rh_words::{Fault, Refusal};
 use std::alloc::Global;
 
-/// The nodes and promises of a text, which are lawful and plain, or its first statement that breaks a rule, with the first
-/// reason that holds there.
-pub fn drafts(alloc: Global, text: &Text) -> Result<Drafts, Fault<Refusal>>
-    ensures planned { IfOk result (λ d. IsDraftOf text.now d.nodes.items d.promises.items) }
-    ensures lawful { IfOk result (λ d. AreLawful d.nodes.items d.promises.items) }
-    ensures plain { IfOk result (λ d. ArePlain d.nodes.items) }
-    ensures refused { OnRefused result (λ refusal. FirstBreak text.now refusal.line refusal.reason) }
+/// The nodes and promises of a text, which are lawful, with the handed-in checks that its checks name, or its first statement
+/// that breaks a rule, with the first reason that holds there.
+pub fn drafts<C: Checks>(alloc: Global, text: &Text, checks: &C) -> Result<Drafts, Fault<Refusal>>
+    ensures planned { IfOk result (λ d. IsDraftOf (handed_checks (C.names checks.now) (C.specs checks.now)) text.now d.nodes.items d.promises.items) }
+    ensures lawful { IfOk result (λ d. AreLawful [] d.nodes.items d.promises.items) }
+    ensures refused { OnRefused result (λ refusal. FirstBreak (handed_checks (C.names checks.now) (C.specs checks.now)) text.now refusal.line refusal.reason) }
 {
-    let mut planner = Planner::new(alloc);
+    let mut planner = Planner::new(alloc, Handed::of(alloc, checks)?);
     lawful_texts_keep_their_limits();
     let items = text.items();
     for item in items {

@@ -1,9 +1,10 @@
 //! Texts with their first break, by the rules of the language, and one plan.
 
 use crate::{Drafts, drafts};
-use rh_rules::{Kind, Node, Step};
+use rh_check::{Checks, Spec, Term, UserSpec};
+use rh_rules::{Kind, Node, PlannedCheck, Scheme, Step};
 use rh_task_text::read_program;
-use rh_words::{Bytes, Fault, OutOfMemory, print_number};
+use rh_words::{Bytes, Fault, Name, OutOfMemory, fold_sum, print_number};
 use std::alloc::Global;
 use std::test::Fail;
 
@@ -29,7 +30,7 @@ fn plan(alloc: Global, text: &[u8]) -> Result<Drafts, (u32, u8)> {
         Ok(read) => read,
         Err(_) => return Err((99, 98)),
     };
-    match drafts(alloc, &read) {
+    match drafts(alloc, &read, &Two) {
         Ok(drafts) => Ok(drafts),
         Err(Fault::OutOfMemory) => Err((99, 97)),
         Err(Fault::Refused(refusal)) => Err((refusal.line, refusal.reason.number())),
@@ -52,21 +53,24 @@ fn breaks(alloc: Global, lines: &[u8], line: u32, reason: u8) -> Result<bool, Ou
     Ok(first_break(alloc, text.as_slice()) == (line, reason))
 }
 
-/// Whether a text has this first break that has so many times this word, a number from 0 on, and this rest of a line.
+/// Whether a text has this first break whose lines are these, then so many times this word, a number from 0 on, and this rest of
+/// a line, and then these.
 fn repeats(
     alloc: Global,
-    word: &[u8],
-    rest: &[u8],
+    lines: (&[u8], &[u8], &[u8], &[u8]),
     times: u64,
     want: (u32, u8),
 ) -> Result<bool, OutOfMemory> {
+    let (first, word, rest, last) = lines;
     let mut text = Bytes::new(alloc);
     text.append(b"rhc 1\n")?;
+    text.append(first)?;
     for number in 0..times {
         text.append(word)?;
         print_number(alloc, &mut text, number)?;
         text.append(rest)?;
     }
+    text.append(last)?;
     Ok(first_break(alloc, text.as_slice()) == want)
 }
 
@@ -108,9 +112,82 @@ fn names_and_order_are_judged(rt: HostRuntime) -> Result<(), Fail> {
     Ok(())
 }
 
+/// Whether a task that awaits `p`, of three words, and `w`, of one, has this reason at its line, the only one, where it is no 0.
+fn breaks_at(alloc: Global, line: &[u8], reason: u8) -> Result<bool, OutOfMemory> {
+    let mut lines = Bytes::new(alloc);
+    lines.append(b"task b plain await p w\n")?;
+    lines.append(line)?;
+    lines.append(b"\nput q z\nend")?;
+    breaks(
+        alloc,
+        lines.as_slice(),
+        if reason == 0 { 0 } else { 12 },
+        reason,
+    )
+}
+
+#[test]
+fn stencils_fit_their_sides(rt: HostRuntime) -> Result<(), Fail> {
+    let rows: [(&[u8], u8); 9] = [
+        (b"let z stencil1 w p w 1 2", 0),
+        (b"let z stencil1 p p p 1 2", 0),
+        (b"let z stencil1 p p x 1 2", 11),
+        (b"let z stencil2 p p w w p 3 1 2", 0),
+        (b"let z stencil2 p p w w p 2 1 2", 14),
+        (b"let z stencil2 p w w w p 3 1 2", 14),
+        (b"let z stencil2 p p p w p 3 1 2", 14),
+        (b"let z stencil2 p p p p p 3 1 2", 14),
+        (b"let z stencil2 p p w w y 3 1 2", 11),
+    ];
+    for (line, reason) in rows {
+        assert!(rt; breaks_at(rt.alloc(), line, reason)?);
+    }
+    assert!(rt;
+        breaks(
+            rt.alloc(),
+            b"task b plain await p w\nlet z stencil1 p w p 1 2\nput q z\nend",
+            13,
+            14
+        )?
+    );
+    assert!(rt;
+        breaks(
+            rt.alloc(),
+            b"task b replay 2 await p w\nput q p\ncheck conserve q w p w 1 2\nend",
+            0,
+            0
+        )?
+    );
+    assert!(rt;
+        breaks(
+            rt.alloc(),
+            b"task b replay 2 await p w\nput q p\ncheck conserve q p w p 1 2\nend",
+            13,
+            14
+        )?
+    );
+    assert!(rt;
+        breaks(
+            rt.alloc(),
+            b"task b replay 2 await p w\nput q p\ncheck conserve2 q p p w w p 3 1 2\nend",
+            0,
+            0
+        )?
+    );
+    assert!(rt;
+        breaks(
+            rt.alloc(),
+            b"task b replay 2 await p w\nput q p\ncheck conserve2 q p p w w p 1 1 2\nend",
+            13,
+            14
+        )?
+    );
+    Ok(())
+}
+
 #[test]
 fn lengths_drops_and_forms_are_judged(rt: HostRuntime) -> Result<(), Fail> {
-    let rows: [(&[u8], u32, u8); 24] = [
+    let rows: [(&[u8], u32, u8); 18] = [
         (b"task b plain await p w\nlet z add p w\nend", 12, 14),
         (b"task b plain await p w\nlet z mul w p\nend", 12, 14),
         (b"task b plain await p\nlet z cut p 2 2\nend", 12, 14),
@@ -141,20 +218,49 @@ fn lengths_drops_and_forms_are_judged(rt: HostRuntime) -> Result<(), Fail> {
             0,
             0,
         ),
-        (b"task b replicate\nend", 11, 19),
-        (b"task a replay 9 await r\nend", 11, 19),
         (b"task b abft\nend", 11, 19),
-        (b"finish p\nend", 11, 19),
-        (b"group g await r\nend", 11, 19),
         (b"matrix m 1 1\nrow\nend", 11, 19),
-        (
-            b"task b plain await p\nlet z stencil1 p p p 1 2\nend",
-            12,
-            19,
-        ),
         (b"task b plain await p\nlet z product m p\nend", 12, 19),
-        (b"task b plain\ncheck total p 1\nend", 12, 19),
-        (b"task b plain\ncheck user p f\nend", 12, 19),
+        (
+            b"task b replay 2 await p\nput q p\ncheck conserve q p p p 1 1\nend",
+            0,
+            0,
+        ),
+    ];
+    for (lines, line, reason) in rows {
+        assert!(rt; breaks(rt.alloc(), lines, line, reason)?);
+    }
+    Ok(())
+}
+
+#[test]
+fn blocks_are_judged(rt: HostRuntime) -> Result<(), Fail> {
+    let rows: [(&[u8], u32, u8); 17] = [
+        (
+            b"finish f\ntask b plain await p\nput q p\nend\nend\ntask c plain await f q\nend",
+            0,
+            0,
+        ),
+        (b"finish p\nend", 11, 10),
+        (b"finish a\nend", 11, 10),
+        (b"group a\nend", 11, 10),
+        (b"finish f\nfinish f\nend\nend", 12, 10),
+        (b"group g\ntask g plain\nend\nend", 12, 10),
+        (b"finish f\npromise r 1\nend\npromise r 1", 14, 10),
+        (b"group g await p p\nend", 11, 10),
+        (b"group g await r\nend", 11, 11),
+        (b"group g await w q\nend", 11, 12),
+        (b"finish f\ntask b plain await f\nend\nend", 12, 12),
+        (b"finish f\ngroup g await f\nend\nend", 12, 12),
+        (b"finish f\nend\ntask b plain await f\nput q f\nend", 0, 0),
+        (b"finish f\nend\ntask b plain await p\nput f p\nend", 14, 13),
+        (b"finish f\ntask b plain await p\nput f p\nend\nend", 13, 13),
+        (b"group g await p\ntask b plain\nput q p\nend\nend", 13, 11),
+        (
+            b"group g\nfinish f\ntask b plain await w\nend\nend\nend",
+            0,
+            0,
+        ),
     ];
     for (lines, line, reason) in rows {
         assert!(rt; breaks(rt.alloc(), lines, line, reason)?);
@@ -164,12 +270,46 @@ fn lengths_drops_and_forms_are_judged(rt: HostRuntime) -> Result<(), Fail> {
 
 #[test]
 fn limits_are_judged(rt: HostRuntime) -> Result<(), Fail> {
-    let alloc = rt.alloc();
-    assert!(rt; repeats(alloc, b"promise p", b" 1\n", 16384, (0, 0))?);
-    assert!(rt; repeats(alloc, b"promise p", b" 1\n", 16385, (16386, 17))?);
-    assert!(rt; repeats(alloc, b"task t", b" plain\nend\n", 16385, (32770, 17))?);
-    assert!(rt; repeats(alloc, b"promise p", b" 4096\n", 257, (258, 17))?);
-    assert!(rt; repeats(alloc, b"promise p", b" 4096 temp\n", 4097, (4098, 17))?);
+    let rows: [((&[u8], &[u8], &[u8], &[u8]), u64, (u32, u8)); 5] = [
+        ((b"", b"promise p", b" 1\n", b""), 16384, (0, 0)),
+        ((b"", b"promise p", b" 1\n", b""), 16385, (16386, 17)),
+        ((b"", b"task t", b" plain\nend\n", b""), 16385, (32770, 17)),
+        ((b"", b"promise p", b" 4096\n", b""), 257, (258, 17)),
+        ((b"", b"promise p", b" 4096 temp\n", b""), 4097, (4098, 17)),
+    ];
+    for (lines, times, want) in rows {
+        assert!(rt; repeats(rt.alloc(), lines, times, want)?);
+    }
+    Ok(())
+}
+
+/// A scope counts as a promise at its first line, and as a node at its end. Its three words are not shown.
+#[test]
+fn limits_of_blocks_are_judged(rt: HostRuntime) -> Result<(), Fail> {
+    let scope = b"finish f\nend\n";
+    let rows: [((&[u8], &[u8], &[u8], &[u8]), u64, (u32, u8)); 6] = [
+        ((b"", b"finish f", b"\nend\n", b""), 16385, (32770, 17)),
+        ((b"", b"group g", b"\nend\n", b""), 16385, (32770, 17)),
+        (
+            (b"finish f\n", b"task t", b" plain\nend\n", b"end\n"),
+            16383,
+            (0, 0),
+        ),
+        (
+            (b"finish f\n", b"task t", b" plain\nend\n", b"end\n"),
+            16384,
+            (32771, 17),
+        ),
+        (
+            (b"", b"promise p", b" 4096 temp\n", scope),
+            4096,
+            (4098, 17),
+        ),
+        ((b"", b"promise p", b" 4096\n", scope), 256, (0, 0)),
+    ];
+    for (lines, times, want) in rows {
+        assert!(rt; repeats(rt.alloc(), lines, times, want)?);
+    }
     Ok(())
 }
 
@@ -225,4 +365,178 @@ fn two_tasks_have_these_drafts(rt: HostRuntime) -> Result<(), Fail> {
     };
     assert!(rt; is_so);
     Ok(())
+}
+
+/// Two handed-in checks of the name `f`: the words sum to 6, and to 7.
+struct Two;
+
+#[test]
+fn schemes_and_checks_are_judged(rt: HostRuntime) -> Result<(), Fail> {
+    let rows: [(&[u8], u32, u8); 20] = [
+        (b"task b replicate await p\nput q p\nend", 0, 0),
+        (b"task b replay 1\nend", 0, 0),
+        (b"task b replay 8\nend", 0, 0),
+        (b"task b replay 0\nend", 11, 15),
+        (b"task b replay 9\nend", 11, 15),
+        (b"task a replay 9 await p\nend", 11, 10),
+        (b"task b replay 9 await r\nend", 11, 11),
+        (b"task b replay 9 await q\nend", 11, 12),
+        (
+            b"task b plain await p\nput q p\ncheck total q 6\nend",
+            13,
+            15,
+        ),
+        (
+            b"task b replicate await p\nput q p\ncheck total q 6\nend",
+            13,
+            15,
+        ),
+        (
+            b"task b plain await p\nput q p\ncheck total p 6\nend",
+            13,
+            11,
+        ),
+        (
+            b"task b replay 2 await p\nput q p\ncheck range q 1 3\nend",
+            0,
+            0,
+        ),
+        (
+            b"task b replay 2 await p\nput q p\ncheck range r 1 3\nend",
+            13,
+            11,
+        ),
+        (
+            b"task b replay 2 await p\ncheck range q 1 3\nput q p\nend",
+            12,
+            11,
+        ),
+        (
+            b"task b replay 2 await p\nput q p\ncheck linear q 0 w 1\nend",
+            13,
+            11,
+        ),
+        (
+            b"task b replay 2 await p\nlet z sum p\nput q p\ncheck linear q 0 z 1\nend",
+            14,
+            11,
+        ),
+        (
+            b"task b replay 2 await p\nput q p\ndrop p\ncheck linear q 0 p 1\nend",
+            14,
+            16,
+        ),
+        (
+            b"task b replay 2 await p\nput q p\ncheck user q f\nend",
+            0,
+            0,
+        ),
+        (
+            b"task b replay 2 await p\nput q p\ncheck user q h\nend",
+            13,
+            18,
+        ),
+        (
+            b"task b plain await p\nput q p\ncheck user q h\nend",
+            13,
+            15,
+        ),
+    ];
+    for (lines, line, reason) in rows {
+        assert!(rt; breaks(rt.alloc(), lines, line, reason)?);
+    }
+    Ok(())
+}
+
+/// The terms 2 times await 1 and 7 times await 0, and behind them fourteen of factor 0.
+fn are_terms(terms: &[Term; 16]) -> bool {
+    (terms[0].input, terms[0].factor) == (1, 2)
+        && (terms[1].input, terms[1].factor) == (0, 7)
+        && terms[2..]
+            .iter()
+            .all(|term| term.input == 0 && term.factor == 0)
+}
+
+/// Whether the check reads promise 1 and has base 5 and the two terms.
+fn is_linear(check: &PlannedCheck) -> bool {
+    match &check.spec {
+        Spec::Linear { base, terms, count } => {
+            check.promise == 1 && *base == 5 && *count == 2 && are_terms(terms)
+        }
+        _ => false,
+    }
+}
+
+/// Whether the check reads promise 1 and asks the handed-in check at this place, whose spec is kept.
+fn is_user(check: &PlannedCheck, user: &Option<UserSpec>, want: u32, kept: UserSpec) -> bool {
+    match check.spec {
+        Spec::User { at } => check.promise == 1 && at == want && *user == Some(kept),
+        _ => false,
+    }
+}
+
+/// Whether the second task is replayed with a linear check and one that asks the first of two handed-in checks of a name.
+fn has_checks(drafts: &Drafts) -> bool {
+    let [_, node] = drafts.nodes.as_slice() else {
+        return false;
+    };
+    let Scheme::Replay { limit: 3 } = node.scheme else {
+        return false;
+    };
+    let ([linear, user], [none, some]) = (node.checks.as_slice(), node.checks.users()) else {
+        return false;
+    };
+    is_linear(linear) && none.is_none() && is_user(user, some, 0, UserSpec::Total { sum: 6 })
+}
+
+#[test]
+fn a_replayed_task_has_these_checks(rt: HostRuntime) -> Result<(), Fail> {
+    let mut text = Bytes::new(rt.alloc());
+    text.append(ABOVE)?;
+    text.append(
+        b"task b replay 3 await p w\nput q p\ncheck linear q 5 w 2 p 7\ncheck user q f\nend\n",
+    )?;
+    let is_so = match plan(rt.alloc(), text.as_slice()) {
+        Ok(drafts) => has_checks(&drafts),
+        Err(_) => false,
+    };
+    assert!(rt; is_so);
+    Ok(())
+}
+
+impl Checks for Two {
+    ghost use Rattle.std.specs.Prelude.{[], ◌∷◌, codes};
+    ghost use Rattle.rh_check.specs.declared.spec.UserSpec.TheVariants as user;
+
+    ghost names = { λ c. codes "f" ∷ codes "f" ∷ [] };
+
+    ghost specs = { λ c. user.Total 6 ∷ user.Total 7 ∷ [] };
+
+    fn count(&self) -> u32 {
+        2
+    }
+
+    fn name(&self, _at: u32) -> Name {
+        match Name::read(b"f") {
+            Some(name) => name,
+            None => unreachable!(),
+        }
+    }
+
+    fn spec(&self, at: u32) -> UserSpec {
+        if at == 0 {
+            UserSpec::Total { sum: 6 }
+        } else {
+            UserSpec::Total { sum: 7 }
+        }
+    }
+
+    #[tactic(auto, unfolding(rh_check::specs::Checks::user_passes))]
+    fn ask(&self, at: u32, words: &[u64]) -> bool {
+        if at == 0 {
+            fold_sum(words) == 6
+        } else {
+            fold_sum(words) == 7
+        }
+    }
 }

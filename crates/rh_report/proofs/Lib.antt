@@ -1,2 +1,5 @@
 pub mod Lines
 pub mod Looking
+pub mod Gathered
+pub mod AnyFailed
+pub mod FaultFree

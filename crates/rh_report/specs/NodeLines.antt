@@ -9,7 +9,7 @@ use Rattle.rh_plan.specs.declared.outcome.Trial.TheVariants as trial
 use Rattle.rh_plan.specs.declared.outcome.Verdict.{Verdict}
 use Rattle.rh_plan.specs.declared.outcome.Verdict.TheVariants.{Accepted, Corrected, Failed, Skipped, Opened, Closed, Ended}
 use Rattle.rh_plan.specs.Plans.{PlanData}
-use Rattle.rh_plain.specs.Runs.{RunData}
+use Rattle.rh_report.specs.Tables.{TableData}
 use Rattle.rh_report.specs.Naming.{node_name, cause_name}
 
 -- the word that a node's line begins with
@@ -57,7 +57,7 @@ word_of (Some node) = kind_word node.kind
 abbrev pub word_at : PlanData → ℕ → List ℕ
 word_at plan v = word_of (slice_get plan.nodes v)
 
--- the line of the node of this number and, below it, those of its attempts, by what a run gave
-unfoldable pub node_lines : PlanData → RunData → ℕ → List ℕ
-node_lines plan run v =
-    word_at plan v ++ node_name plan v ++ ending_text plan (slice_index_or run.verdicts v Failed) ++ codes "\n" ++ attempt_lines 0 (slice_index_or run.trials v [])
+-- the line of the node of this number and, below it, those of its attempts, by the tables
+unfoldable pub node_lines : PlanData → TableData → ℕ → List ℕ
+node_lines plan tables v =
+    word_at plan v ++ node_name plan v ++ ending_text plan (slice_index_or tables.verdicts v Failed) ++ codes "\n" ++ attempt_lines 0 (slice_index_or tables.trials v [])

@@ -6,7 +6,7 @@ ghost use Rattle.rh_report.specs.Reports.{nodes_text};
 
 use crate::ends::{trials_at, verdict_at};
 use crate::naming::{print_cause, print_labelled, print_node_name};
-use rh_plain::Ran;
+use crate::told::Told;
 use rh_plan::{Plan, Trial, Verdict};
 use rh_rules::Kind;
 use rh_words::{Bytes, OutOfMemory};
@@ -16,13 +16,13 @@ use std::alloc::Global;
 pub(crate) fn print_nodes(
     alloc: Global,
     plan: &Plan,
-    ran: &Ran,
+    told: &Told,
     into: &mut Bytes,
 ) -> Result<(), OutOfMemory>
-    ensures { OnOk result (into.new ≡ into.old ++ nodes_text plan.now ran.now) }
+    ensures { OnOk result (into.new ≡ into.old ++ nodes_text plan.now told.now) }
 {
     for node in 0..plan.nodes() {
-        print_node(alloc, plan, ran, node, into)?;
+        print_node(alloc, plan, told, node, into)?;
     }
     Ok(())
 }
@@ -32,18 +32,18 @@ pub(crate) fn print_nodes(
 fn print_node(
     alloc: Global,
     plan: &Plan,
-    ran: &Ran,
+    told: &Told,
     node: u32,
     into: &mut Bytes,
 ) -> Result<(), OutOfMemory>
     requires { node < length plan.now.nodes }
-    ensures { OnOk result (into.new ≡ into.old ++ node_lines plan.now ran.now node) }
+    ensures { OnOk result (into.new ≡ into.old ++ node_lines plan.now told.now node) }
 {
     into.append(word_at(plan, node))?;
     print_node_name(plan, node, into)?;
-    print_ending(alloc, plan, verdict_at(ran.verdicts(), node), into)?;
+    print_ending(alloc, plan, verdict_at(told.verdicts(), node), into)?;
     into.append(b"\n")?;
-    print_attempts(alloc, trials_at(ran.trials(), node), into)?;
+    print_attempts(alloc, trials_at(told.attempts(), node), into)?;
     Ok(())
 }
 

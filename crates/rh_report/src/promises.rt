@@ -1,15 +1,15 @@
 //! The lines of promises.
 
-ghost use Rattle.std.specs.Prelude.{◌≡◌, ◌<◌, ◌++◌, None, OnOk, length, slice_index_or};
+ghost use Rattle.std.specs.Prelude.{◌≡◌, ◌<◌, ◌++◌, OnOk, length};
 ghost use Rattle.std.specs.Option.{option_copied};
-ghost use Rattle.rh_rules.specs.Lawful.{putter_of};
-ghost use Rattle.rh_report.specs.PromiseLines.{declared_line, is_declared_at, is_temp_at, promise_line, put_attempt, put_text, shown_text, state_text, words_text};
+ghost use Rattle.rh_report.specs.PromiseLines.{declared_line, is_declared_at, is_temp_at, promise_line, put_text, shown_text, state_at, words_text};
 ghost use Rattle.rh_report.specs.Reports.{promises_text};
 
-use crate::ends::{verdict_at, words_at};
+use crate::ends::{put_at, words_or_none};
 use crate::naming::{print_labelled, print_node_name, print_promise_name};
-use rh_plain::Ran;
-use rh_plan::{Plan, Verdict};
+use crate::told::Told;
+use rh_journal::Shown;
+use rh_plan::Plan;
 use rh_rules::Kind;
 use rh_words::{Bytes, OutOfMemory, Words};
 use std::alloc::Global;
@@ -18,13 +18,14 @@ use std::alloc::Global;
 pub(crate) fn print_promises(
     alloc: Global,
     plan: &Plan,
-    ran: &Ran,
+    told: &Told,
+    shown: &Shown,
     into: &mut Bytes,
 ) -> Result<(), OutOfMemory>
-    ensures { OnOk result (into.new ≡ into.old ++ promises_text plan.now ran.now) }
+    ensures { OnOk result (into.new ≡ into.old ++ promises_text plan.now told.now shown.now) }
 {
     for promise in 0..plan.promises() {
-        print_promise(alloc, plan, ran, promise, into)?;
+        print_promise(alloc, plan, told, shown, promise, into)?;
     }
     Ok(())
 }
@@ -34,15 +35,16 @@ pub(crate) fn print_promises(
 fn print_promise(
     alloc: Global,
     plan: &Plan,
-    ran: &Ran,
+    told: &Told,
+    shown: &Shown,
     promise: u32,
     into: &mut Bytes,
 ) -> Result<(), OutOfMemory>
     requires { promise < length plan.now.promises }
-    ensures { OnOk result (into.new ≡ into.old ++ promise_line plan.now ran.now promise) }
+    ensures { OnOk result (into.new ≡ into.old ++ promise_line plan.now told.now shown.now promise) }
 {
     if is_declared(plan, promise) {
-        print_declared(alloc, plan, ran, promise, into)?;
+        print_declared(alloc, plan, told, shown, promise, into)?;
     }
     Ok(())
 }
@@ -64,16 +66,17 @@ pub(crate) fn is_declared(plan: &Plan, promise: u32) -> bool
 fn print_declared(
     alloc: Global,
     plan: &Plan,
-    ran: &Ran,
+    told: &Told,
+    shown: &Shown,
     promise: u32,
     into: &mut Bytes,
 ) -> Result<(), OutOfMemory>
     requires { promise < length plan.now.promises }
-    ensures { OnOk result (into.new ≡ into.old ++ declared_line plan.now ran.now promise) }
+    ensures { OnOk result (into.new ≡ into.old ++ declared_line plan.now told.now shown.now promise) }
 {
     into.append(b"promise ")?;
     print_promise_name(plan, promise, into)?;
-    print_state(alloc, plan, ran, promise, into)?;
+    print_state(alloc, plan, told, shown, promise, into)?;
     into.append(b"\n")?;
     Ok(())
 }
@@ -83,12 +86,13 @@ fn print_declared(
 fn print_state(
     alloc: Global,
     plan: &Plan,
-    ran: &Ran,
+    told: &Told,
+    shown: &Shown,
     promise: u32,
     into: &mut Bytes,
 ) -> Result<(), OutOfMemory>
     requires { promise < length plan.now.promises }
-    ensures { OnOk result (into.new ≡ into.old ++ state_text plan.now ran.now (is_temp_at plan.now promise) (slice_index_or ran.now.values promise None) (putter_of plan.now.promises promise)) }
+    ensures { OnOk result (into.new ≡ into.old ++ state_at plan.now told.now shown.now promise) }
 {
     let Some(node) = plan.putter(promise) else {
         into.append(b" none")?;
@@ -96,9 +100,9 @@ fn print_state(
     };
     into.append(b" by ")?;
     print_node_name(plan, node, into)?;
-    let attempt = put_attempt(verdict_at(ran.verdicts(), node));
     let temp = is_temp(plan, promise);
-    print_put(alloc, attempt, temp, words_at(ran.values(), promise), into)?;
+    let put = put_at(told.puts(), promise);
+    print_put(alloc, temp, shown.get(promise), put, into)?;
     Ok(())
 }
 
@@ -110,33 +114,23 @@ fn is_temp(plan: &Plan, promise: u32) -> bool
     plan.is_temp(promise)
 }
 
-/// The attempt of which the puts of a node are that ended so.
-fn put_attempt(verdict: Verdict) -> u32
-    ensures { result ≡ put_attempt verdict }
-{
-    match verdict {
-        Verdict::Accepted { attempt } => attempt,
-        _ => 0,
-    }
-}
-
 /// Appends the attempt and the words of a put, or that there is none.
 #[tactic(auto, using(std::proofs::Common::append_assoc))]
 fn print_put(
     alloc: Global,
-    attempt: u32,
     temp: bool,
     words: Option<&Words>,
+    put: Option<u32>,
     into: &mut Bytes,
 ) -> Result<(), OutOfMemory>
-    ensures { OnOk result (into.new ≡ into.old ++ put_text attempt temp (option_copied words.entry)) }
+    ensures { OnOk result (into.new ≡ into.old ++ put_text temp (option_copied words.entry) put) }
 {
-    let Some(words) = words else {
+    let Some(attempt) = put else {
         into.append(b" void")?;
         return Ok(());
     };
     print_labelled(alloc, b" attempt ", u64::from(attempt), into)?;
-    print_shown(alloc, temp, words.as_slice(), into)?;
+    print_shown(alloc, temp, words_or_none(words), into)?;
     Ok(())
 }
 

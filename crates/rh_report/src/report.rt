@@ -1,34 +1,54 @@
 //! The report of a run.
 
-ghost use Rattle.std.specs.Prelude.{◌≡◌, ◌++◌, OnOk, OnErr};
-ghost use Rattle.rh_plain.specs.Runs.{run_of};
+ghost use Rattle.std.specs.Prelude.{◌≡◌, ◌++◌, IfOk, OnOk, OnErr};
+ghost use Rattle.rh_journal.specs.Own.{run_of};
+ghost use Rattle.rh_journal.specs.Tells.{Tells};
 ghost use Rattle.rh_report.specs.Reports.{report_text, text_of};
 
 use crate::nodes::print_nodes;
 use crate::promises::print_promises;
+use crate::told::{Told, gathered};
 use crate::totals::print_total;
 use rh_injector::Faults;
-use rh_plain::Ran;
+use rh_journal::{Outcome, Shown};
 use rh_plan::Plan;
 use rh_words::{Bytes, OutOfMemory};
 use std::alloc::Global;
 
-/// Appends the report of what the run of a plan under these faults gave.
-#[tactic(auto, unfolding(crate::specs::Reports::report_text))]
+/// Appends the report of a run of a plan under these faults, from its outcome alone.
+///
+/// One pass over the journal gathers how the nodes and their attempts ended and what was put, in tables by number. The lines are then
+/// printed from the tables.
 pub fn print_report(
     alloc: Global,
     plan: &Plan,
     faults: &Faults,
-    ran: &Ran,
+    outcome: &Outcome,
     into: &mut Bytes,
 ) -> Result<(), OutOfMemory>
-    requires { ran.now ≡ run_of plan.now faults.now }
+    requires { Tells (run_of plan.now faults.now) outcome.now.journal outcome.now.shown }
     ensures ok { OnOk result (into.new ≡ into.old ++ report_text plan.now faults.now) }
     ensures err { OnErr result (into.new ≡ into.old) }
 {
-    let mut text = Bytes::new(alloc);
-    print_all(alloc, plan, faults, ran, &mut text)?;
+    let text = composed(alloc, plan, faults, outcome)?;
     add(text, into)
+}
+
+/// The report of an outcome.
+fn composed(
+    alloc: Global,
+    plan: &Plan,
+    faults: &Faults,
+    outcome: &Outcome,
+) -> Result<Bytes, OutOfMemory>
+    requires { Tells (run_of plan.now faults.now) outcome.now.journal outcome.now.shown }
+    ensures { IfOk result (λ text. text ≡ report_text plan.now faults.now) }
+{
+    let _known = plan.nodes();
+    let told = gathered(alloc, plan, outcome.journal.entries())?;
+    let mut text = Bytes::new(alloc);
+    print_all(alloc, plan, faults, &told, &outcome.shown, &mut text)?;
+    Ok(text)
 }
 
 /// Appends the first line, the lines of nodes and of promises, and the last line.
@@ -37,15 +57,16 @@ fn print_all(
     alloc: Global,
     plan: &Plan,
     faults: &Faults,
-    ran: &Ran,
+    told: &Told,
+    shown: &Shown,
     into: &mut Bytes,
 ) -> Result<(), OutOfMemory>
-    ensures { OnOk result (into.new ≡ into.old ++ text_of plan.now faults.now ran.now) }
+    ensures { OnOk result (into.new ≡ into.old ++ text_of plan.now faults.now told.now shown.now) }
 {
     into.append(b"rhr 1\n")?;
-    print_nodes(alloc, plan, ran, into)?;
-    print_promises(alloc, plan, ran, into)?;
-    print_total(alloc, plan, faults, ran, into)?;
+    print_nodes(alloc, plan, told, into)?;
+    print_promises(alloc, plan, told, shown, into)?;
+    print_total(alloc, plan, faults, told, into)?;
     Ok(())
 }
 

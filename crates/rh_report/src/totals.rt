@@ -5,14 +5,13 @@ ghost use Rattle.rh_injector.specs.declared.faults.Strike.{Strike};
 ghost use Rattle.rh_plan.specs.Results.{is_accepted, is_failed, is_skipped};
 ghost use Rattle.rh_report.specs.Totals.{endings_text, is_put_at, is_task_at, made_by, made_text, put_count, task_count, total_line};
 
-use crate::ends::{trials_at, words_at};
+use crate::ends::{put_at, trials_at};
 use crate::naming::print_labelled;
 use crate::promises::is_declared;
+use crate::told::{Attempts, Told};
 use rh_injector::{Faults, Strike};
-use rh_plain::Ran;
 use rh_plan::{Plan, Verdict};
 use rh_rules::Kind;
-use rh_schemes::Trials;
 use rh_words::{Bytes, OutOfMemory};
 use std::alloc::Global;
 
@@ -22,22 +21,27 @@ pub(crate) fn print_total(
     alloc: Global,
     plan: &Plan,
     faults: &Faults,
-    ran: &Ran,
+    told: &Told,
     into: &mut Bytes,
 ) -> Result<(), OutOfMemory>
-    ensures { OnOk result (into.new ≡ into.old ++ total_line plan.now faults.now ran.now) }
+    ensures { OnOk result (into.new ≡ into.old ++ total_line plan.now faults.now told.now) }
 {
-    print_endings(alloc, plan, ran, into)?;
-    print_made(alloc, plan, faults, ran, into)?;
+    print_endings(alloc, plan, told, into)?;
+    print_made(alloc, plan, faults, told, into)?;
     Ok(())
 }
 
 /// Appends how many tasks there are and how they ended.
 #[tactic(auto, using(std::proofs::Common::append_assoc), unfolding(crate::specs::Totals::endings_text))]
-fn print_endings(alloc: Global, plan: &Plan, ran: &Ran, into: &mut Bytes) -> Result<(), OutOfMemory>
-    ensures { OnOk result (into.new ≡ into.old ++ endings_text plan.now ran.now) }
+fn print_endings(
+    alloc: Global,
+    plan: &Plan,
+    told: &Told,
+    into: &mut Bytes,
+) -> Result<(), OutOfMemory>
+    ensures { OnOk result (into.new ≡ into.old ++ endings_text plan.now told.now) }
 {
-    let verdicts = ran.verdicts();
+    let verdicts = told.verdicts();
     print_labelled(alloc, b"total tasks ", task_count(plan), into)?;
     print_labelled(alloc, b" accepted ", accepted_count(verdicts), into)?;
     print_labelled(alloc, b" failed ", failed_count(verdicts), into)?;
@@ -51,13 +55,13 @@ fn print_made(
     alloc: Global,
     plan: &Plan,
     faults: &Faults,
-    ran: &Ran,
+    told: &Told,
     into: &mut Bytes,
 ) -> Result<(), OutOfMemory>
-    ensures { OnOk result (into.new ≡ into.old ++ made_text plan.now faults.now ran.now) }
+    ensures { OnOk result (into.new ≡ into.old ++ made_text plan.now faults.now told.now) }
 {
-    let made = made_count(faults.as_slice(), ran.trials());
-    print_labelled(alloc, b" puts ", put_count(plan, ran), into)?;
+    let made = made_count(faults.as_slice(), told.attempts());
+    print_labelled(alloc, b" puts ", put_count(plan, told), into)?;
     print_labelled(alloc, b" faults ", made, into)?;
     print_labelled(alloc, b" of ", u64::from(faults.len()), into)?;
     into.append(b"\n")?;
@@ -107,7 +111,7 @@ fn failed_count(verdicts: &[Verdict]) -> u64
     verdicts.iter().filter(|v| is_failed(**v)).count() as u64
 }
 
-fn is_failed(verdict: Verdict) -> bool
+pub(crate) fn is_failed(verdict: Verdict) -> bool
     ensures { result ≡ is_failed verdict }
 {
     matches!(verdict, Verdict::Failed)
@@ -127,34 +131,34 @@ fn is_skipped(verdict: Verdict) -> bool
 }
 
 /// How many declared promises were put.
-fn put_count(plan: &Plan, ran: &Ran) -> u64
-    ensures { result ≡ put_count plan.now ran.now }
+fn put_count(plan: &Plan, told: &Told) -> u64
+    ensures { result ≡ put_count plan.now told.now }
 {
     let mut puts: u64 = 0;
     for promise in 0..plan.promises() {
-        puts += u64::from(is_put(plan, ran, promise));
+        puts += u64::from(is_put(plan, told, promise));
     }
     puts
 }
 
 /// Whether a promise was declared, and put.
-fn is_put(plan: &Plan, ran: &Ran, promise: u32) -> bool
+fn is_put(plan: &Plan, told: &Told, promise: u32) -> bool
     requires { promise < length plan.now.promises }
-    ensures { result ≡ is_put_at plan.now ran.now promise }
+    ensures { result ≡ is_put_at plan.now told.now promise }
 {
-    is_declared(plan, promise) && words_at(ran.values(), promise).is_some()
+    is_declared(plan, promise) && put_at(told.puts(), promise).is_some()
 }
 
 /// Of how many of the faults the attempt was made.
-fn made_count(strikes: &[Strike], trials: &[Trials]) -> u64
-    ensures { result ≡ count_by (made_by trials.now) strikes.now }
+fn made_count(strikes: &[Strike], attempts: &[Attempts]) -> u64
+    ensures { result ≡ count_by (made_by attempts.now) strikes.now }
 {
-    strikes.iter().filter(|s| was_made(trials, s)).count() as u64
+    strikes.iter().filter(|s| was_made(attempts, s)).count() as u64
 }
 
 /// Whether the attempt of a fault was made.
-fn was_made(trials: &[Trials], strike: &Strike) -> bool
-    ensures { result ≡ made_by trials.now strike.now }
+fn was_made(attempts: &[Attempts], strike: &Strike) -> bool
+    ensures { result ≡ made_by attempts.now strike.now }
 {
-    (strike.attempt as usize) < trials_at(trials, strike.node).len()
+    (strike.attempt as usize) < trials_at(attempts, strike.node).len()
 }

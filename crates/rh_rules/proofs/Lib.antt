@@ -1,1 +1,2 @@
 pub mod KeptChecks
+pub mod LinearTerms

@@ -1,9 +1,14 @@
 -- What the statements above a line say of it. They are listed with the nearest first.
-use Rattle.std.specs.Prelude.{ℕ, zero, suc, ◌+◌, ◌-◌, List, [], ◌∷◌, ◌++◌, Bool, true, false, Option, Some, None, map, length, drop, sum, option_to_list, unwrap_or, slice_index, slice_get, cond, not, ◌&&◌}
+use Rattle.std.specs.Prelude.{ℕ, ◌+◌, ◌-◌, List, [], ◌∷◌, ◌++◌, Bool, Option, Some, None, map, length, drop, sum, option_to_list, unwrap_or, slice_index, slice_get, cond, not, ◌&&◌, zero, suc, option_and_then}
+use Rattle.std.specs.List.{range_with_len}
 use Rattle.rh_task_text.specs.declared.statement.Statement.{Statement}
 use Rattle.rh_task_text.specs.declared.statement.Statement.TheVariants as text
 use Rattle.rh_task_text.specs.declared.statement.SchemeText.{SchemeText}
 use Rattle.rh_task_text.specs.declared.statement.SchemeText.TheVariants as texts
+use Rattle.rh_rules.specs.declared.block.OpenBlock.{OpenBlock}
+use Rattle.rh_rules.specs.declared.block.OpenBlock.TheVariants.{TaskBlock, MatrixBlock, GroupBlock, ScopeBlock}
+use Rattle.rh_check.specs.declared.spec.Spec.{Spec}
+use Rattle.rh_check.specs.Users.{HandedChecks, user_place, user_named}
 use Rattle.rh_rules.specs.declared.body.Step.{Step}
 use Rattle.rh_rules.specs.declared.body.Step.TheVariants as steps
 use Rattle.rh_rules.specs.declared.node.Node.{Node}
@@ -12,13 +17,16 @@ use Rattle.rh_rules.specs.declared.node.Scheme.{Scheme}
 use Rattle.rh_rules.specs.declared.node.Scheme.TheVariants as schemes
 use Rattle.rh_rules.specs.declared.node.PlannedPromise.{PlannedPromise}
 use Rattle.rh_rules.specs.Tables.{LocalName, local, Putting, putting, put_all, number_of, lens_of, promise_number, promise_len}
-use Rattle.rh_rules.specs.Facets.{Turn, Opens, Closes, Stays, facets}
+use Rattle.rh_rules.specs.Facets.{Opens, Closes, Stays, facets}
 use Rattle.rh_rules.specs.Bodies.{promises_put}
+use Rattle.rh_rules.specs.Kept.{KeptCheck}
 
--- What an await list looks at: the promises of the whole text where it may point forward, else those above.
+-- What a line looks at beside those above it: an await list at the promises of the whole text where it may point forward, a check at the
+-- handed-in checks.
 pub record Look : Type 0 where
   pub forward : Bool
   pub promises : List PlannedPromise
+  pub handed : HandedChecks
 
 abbrev pub seen : Look → List PlannedPromise → List PlannedPromise
 seen look above = cond look.forward look.promises above
@@ -43,13 +51,6 @@ opened (s ∷ above) = elim ((facets s).turn) [
   | Closes ↦ drop 1 (opened above)
   | Stays ↦ opened above
 ]
-
--- An open block: a scope with the number of nodes above its opening line, a group with its own number.
-pub data OpenBlock : Type 0 where
-  TaskBlock : List ℕ → OpenBlock
-  MatrixBlock : OpenBlock
-  GroupBlock : ℕ → OpenBlock
-  ScopeBlock : List ℕ → ℕ → OpenBlock
 
 -- the block that a line opens, below so many nodes
 abbrev pub opening_block : ℕ → Statement → OpenBlock
@@ -120,6 +121,10 @@ numbers_used ls s = map (number_of ls) (facets s).used
 abbrev pub lens_used : List LocalName → Statement → List ℕ
 lens_used ls s = map (λ i. slice_index (lens_of ls) i) (numbers_used ls s)
 
+-- the lengths of the awaits that a check reads
+abbrev pub lens_read : List LocalName → Statement → List ℕ
+lens_read ls s = map (λ i. slice_index (lens_of ls) i) (map (number_of ls) (facets s).inputs)
+
 -- how many words the local has that a line makes
 abbrev pub made_len : List LocalName → Statement → ℕ
 made_len ls s = (facets s).len (lens_used ls s)
@@ -159,13 +164,48 @@ drops_above look (s ∷ above) = elim ((facets s).turn) [
   | Stays ↦ drops_above look above ++ map (number_of (locals_above look above)) (option_to_list (facets s).dropped)
 ]
 
+abbrev pub planned_scheme : SchemeText → Scheme
+planned_scheme texts.Plain = schemes.Plain
+planned_scheme texts.Replicate = schemes.Replicate
+planned_scheme (texts.Replay limit) = schemes.Replay limit
+planned_scheme texts.Abft = schemes.Abft
+
+-- the scheme of the task that a line opens, where it opens one
+abbrev pub scheme_opened : Statement → Scheme
+scheme_opened s = planned_scheme (unwrap_or (facets s).scheme texts.Plain)
+
 -- the scheme of the open task
-abbrev pub scheme_above : List Statement → SchemeText
-scheme_above [] = texts.Plain
+abbrev pub scheme_above : List Statement → Scheme
+scheme_above [] = schemes.Plain
 scheme_above (s ∷ above) = elim ((facets s).turn) [
-  | Opens ↦ unwrap_or (facets s).scheme texts.Plain
-  | Closes ↦ texts.Plain
+  | Opens ↦ scheme_opened s
+  | Closes ↦ schemes.Plain
   | Stays ↦ scheme_above above
+]
+
+-- the place of the handed-in check that a line names
+abbrev pub asked_place : HandedChecks → Statement → ℕ
+asked_place handed s = unwrap_or (option_and_then (user_place handed) (facets s).asked) 0
+
+-- a check of this promise, with the spec of the handed-in check that it names
+abbrev pub check_of : HandedChecks → ℕ → Spec → KeptCheck
+check_of handed promise spec = record { promise = promise; spec = spec; user = user_named handed.specs spec }
+
+-- what the check of a line asks
+abbrev pub spec_asked : HandedChecks → List LocalName → Statement → Spec
+spec_asked handed ls s = (facets s).spec (asked_place handed s) (map (number_of ls) (facets s).inputs)
+
+-- the planned checks of a line, one at most
+abbrev pub checks_by : Look → List PlannedPromise → List LocalName → Statement → List KeptCheck
+checks_by look ps ls s = map (λ q. check_of look.handed (promise_number ps q) (spec_asked look.handed ls s)) (option_to_list (facets s).checked)
+
+-- the checks of the open task
+abbrev pub checks_above : Look → List Statement → List KeptCheck
+checks_above look [] = []
+checks_above look (s ∷ above) = elim ((facets s).turn) [
+  | Opens ↦ []
+  | Closes ↦ []
+  | Stays ↦ checks_above look above ++ checks_by look (promises_above above) (locals_above look above) s
 ]
 
 -- a `put` of the first of these locals, on the second where there is one
@@ -192,26 +232,19 @@ steps_above look (s ∷ above) = elim ((facets s).turn) [
   | Stays ↦ steps_above look above ++ steps_by (promises_above above) (inputs_above look above) (locals_above look above) s
 ]
 
--- n numbers from the first on
-abbrev pub numbers_from : ℕ → ℕ → List ℕ
-numbers_from first zero = []
-numbers_from first (suc n) = first ∷ numbers_from (first + 1) n
+-- the names of the results of the `let` lines: of the locals behind the inputs
+abbrev pub lets_of : List ℕ → List LocalName → List (List ℕ)
+lets_of inputs locals = map (λ t. t.name) (drop (length inputs) locals)
 
-abbrev pub planned_scheme : SchemeText → Scheme
-planned_scheme texts.Plain = schemes.Plain
-planned_scheme texts.Replicate = schemes.Replicate
-planned_scheme (texts.Replay limit) = schemes.Replay limit
-planned_scheme texts.Abft = schemes.Abft
-
-abbrev pub task_node : List ℕ → SchemeText → List ℕ → Option ℕ → List Step → Node
-task_node name scheme inputs group body = record { name = name; kind = kinds.Task; scheme = planned_scheme scheme; group = group; awaits = inputs; members = []; puts = promises_put body; body = body; checks = [] }
+abbrev pub task_node : List ℕ → Scheme → List ℕ → List (List ℕ) → Option ℕ → List Step → List KeptCheck → Node
+task_node name scheme inputs lets group body checks = record { name = name; kind = kinds.Task; scheme = scheme; group = group; awaits = inputs; members = []; puts = promises_put body; body = body; checks = checks; lets = lets }
 
 abbrev pub group_node : List ℕ → List ℕ → Option ℕ → Node
-group_node name awaits group = record { name = name; kind = kinds.Group; scheme = schemes.Plain; group = group; awaits = awaits; members = []; puts = []; body = []; checks = [] }
+group_node name awaits group = record { name = name; kind = kinds.Group; scheme = schemes.Plain; group = group; awaits = awaits; members = []; puts = []; body = []; checks = []; lets = [] }
 
 -- the members of a scope are the nodes of the lines inside it
 abbrev pub scope_node : List ℕ → ℕ → Option ℕ → ℕ → ℕ → Node
-scope_node name own group first count = record { name = name; kind = kinds.Scope; scheme = schemes.Plain; group = group; awaits = []; members = numbers_from first (count - first); puts = own ∷ []; body = []; checks = [] }
+scope_node name own group first count = record { name = name; kind = kinds.Scope; scheme = schemes.Plain; group = group; awaits = []; members = range_with_len first (count - first); puts = own ∷ []; body = []; checks = []; lets = [] }
 
 -- What the statements above say of a line.
 pub record Facts : Type 0 where
@@ -223,17 +256,18 @@ pub record Facts : Type 0 where
   -- how many nodes there are
   pub count : ℕ
   pub nodes : List Node
-  -- of the open task: the promises that it awaits, its locals, those that it drops, its steps and its scheme
+  -- of the open task: the promises that it awaits, its locals, those that it drops, its steps, its scheme and its checks
   pub inputs : List ℕ
   pub locals : List LocalName
   pub drops : List ℕ
   pub steps : List Step
-  pub scheme : SchemeText
+  pub scheme : Scheme
+  pub checks : List KeptCheck
 
 -- the node that ends where the innermost of these blocks is closed
 abbrev pub ended_node : Facts → List OpenBlock → List Node
 ended_node f [] = []
-ended_node f (TaskBlock name ∷ outer) = task_node name f.scheme f.inputs (group_in outer) f.steps ∷ []
+ended_node f (TaskBlock name ∷ outer) = task_node name f.scheme f.inputs (lets_of f.inputs f.locals) (group_in outer) f.steps f.checks ∷ []
 ended_node f (ScopeBlock name first ∷ outer) = scope_node name (promise_number f.promises name) (group_in outer) first f.count ∷ []
 ended_node f (GroupBlock number ∷ outer) = []
 ended_node f (MatrixBlock ∷ outer) = []
@@ -257,6 +291,7 @@ facts_with look above nodes = record {
   drops = drops_above look above;
   steps = steps_above look above;
   scheme = scheme_above above;
+  checks = checks_above look above;
 }
 
 -- The nodes, in the order of their lines: of a task and of a group its opening line, of a scope its `end`. A node's number is its place.

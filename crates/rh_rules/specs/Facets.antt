@@ -1,10 +1,13 @@
 -- What planning asks of a statement, whatever its form: one row for each form. All that is said of lists of statements is said over these.
-use Rattle.std.specs.Prelude.{ℕ, ◌+◌, ◌*◌, ◌==◌, ◌&&◌, ◌≡◌, ◌≤◌, ◌<◌, List, [], ◌∷◌, Bool, true, false, not, Option, Some, None, length, nat_le, option_to_list, sum, slice_index, drop}
+use Rattle.std.specs.Prelude.{ℕ, ◌+◌, ◌*◌, ◌==◌, ◌&&◌, ◌≡◌, ◌≤◌, ◌<◌, List, [], ◌∷◌, ◌++◌, Bool, true, false, not, Option, Some, None, length, nat_le, option_to_list, sum, slice_index, drop, replicate}
 use Rattle.std.specs.List.{list_all}
 use Rattle.rh_task_text.specs.declared.statement.Statement.{Statement}
 use Rattle.rh_task_text.specs.declared.statement.Statement.TheVariants as text
 use Rattle.rh_task_text.specs.declared.statement.SchemeText.{SchemeText}
 use Rattle.rh_task_text.specs.declared.statement.SchemeText.TheVariants.{Plain, Replicate, Replay, Abft}
+use Rattle.rh_check.specs.declared.spec.Term.{Term}
+use Rattle.rh_check.specs.declared.spec.Spec.{Spec}
+use Rattle.rh_check.specs.declared.spec.Spec.TheVariants as specs
 use Rattle.rh_rules.specs.declared.body.Step.{Step}
 use Rattle.rh_rules.specs.declared.body.Step.TheVariants as steps
 use Rattle.rh_rules.specs.declared.node.PlannedPromise.{PlannedPromise}
@@ -44,6 +47,16 @@ pub record Facets : Type 0 where
   -- the promise that a check judges, and the awaits that it reads
   pub checked : Option (List ℕ)
   pub inputs : List (List ℕ)
+  -- the handed-in check that a check names
+  pub asked : Option (List ℕ)
+  -- by the place of that among the handed-in checks, and by the numbers of the awaits: what a check asks
+  pub spec : ℕ → List ℕ → Spec
+  -- by the length of that promise and by the lengths of those awaits: whether they fit
+  pub suits : ℕ → List ℕ → Bool
+
+-- of a line that is no check
+abbrev pub asks_nothing : List ℕ → Spec
+asks_nothing ns = specs.Total 0
 
 abbrev pub nothing : Facets
 nothing = record {
@@ -63,6 +76,9 @@ nothing = record {
   dropped = None;
   checked = None;
   inputs = [];
+  asked = None;
+  spec = λ at ns. asks_nothing ns;
+  suits = λ n ls. true;
 }
 
 -- a form that is not planned yet
@@ -73,8 +89,35 @@ not_built f = record f { built = false }
 abbrev pub makes : List ℕ → List (List ℕ) → (List ℕ → Bool) → (List ℕ → ℕ) → (List ℕ → Step) → Facets
 makes x used fits len step = record nothing { made = Some x; used = used; fits = fits; len = len; step = λ ns. Some (step ns) }
 
-abbrev pub checks : List ℕ → List (List ℕ) → Facets
-checks promise inputs = record nothing { checked = Some promise; inputs = inputs }
+-- a check: the promise that it judges, the awaits that it reads, and what it asks by their numbers
+abbrev pub checks : List ℕ → List (List ℕ) → (List ℕ → Spec) → Facets
+checks promise inputs spec = record nothing { checked = Some promise; inputs = inputs; spec = λ at ns. spec ns }
+
+-- a check of promises whose lengths fit
+abbrev pub fitting : Facets → (ℕ → List ℕ → Bool) → Facets
+fitting f suits = record f { suits = suits }
+
+-- a check that asks a handed-in one
+abbrev pub asks : List ℕ → List ℕ → Facets
+asks promise check = record nothing { checked = Some promise; asked = Some check; spec = λ at ns. specs.User at }
+
+-- the sum of an input times a factor
+abbrev pub term : ℕ → ℕ → Term
+term input factor = record { input = input; factor = factor }
+
+-- the terms of inputs and factors, pair by pair
+abbrev pub terms_of : List ℕ → List ℕ → List Term
+terms_of [] factors = []
+terms_of (n ∷ ns) [] = []
+terms_of (n ∷ ns) (c ∷ factors) = term n c ∷ terms_of ns factors
+
+-- sixteen terms of factor 0
+unfoldable pub no_terms : List Term
+no_terms = replicate 16 (term 0 0)
+
+-- sixteen terms: those of the pairs, and behind them terms of factor 0
+abbrev pub sixteen_terms : List ℕ → List ℕ → List Term
+sixteen_terms ns factors = terms_of ns factors ++ drop (length ns) no_terms
 
 abbrev pub first : List ℕ → ℕ
 first ns = slice_index ns 0
@@ -95,20 +138,20 @@ are_equal ls = first ls == second ls
 abbrev pub are_sides : ℕ → List ℕ → Bool
 are_sides cols ls = slice_index ls 0 == cols && (slice_index ls 1 == cols && (slice_index ls 2 == slice_index ls 3 && slice_index ls 2 * cols == slice_index ls 4))
 
--- a task with one attempt and no checks
-abbrev pub is_plain : SchemeText → Bool
-is_plain Plain = true
-is_plain Replicate = false
-is_plain (Replay limit) = false
-is_plain Abft = false
+-- tasks of this scheme are planned
+abbrev pub is_built_scheme : SchemeText → Bool
+is_built_scheme Plain = true
+is_built_scheme Replicate = true
+is_built_scheme (Replay limit) = true
+is_built_scheme Abft = false
 
 unfoldable pub facets : Statement → Facets
 facets (text.Promise name len temp) = record nothing { declared = Some name; promised = Some (declared_promise name len temp false) }
 facets (text.Matrix name rows cols) = not_built (record nothing { turn = Opens; declared = Some name })
 facets (text.Row columns values) = not_built nothing
-facets (text.Task name scheme awaits) = record nothing { built = is_plain scheme; turn = Opens; declared = Some name; awaited = awaits; task_awaits = awaits; scheme = Some scheme }
-facets (text.Finish name) = not_built (record nothing { turn = Opens; declared = Some name; promised = Some (declared_promise name 3 false true) })
-facets (text.Group name awaits) = not_built (record nothing { turn = Opens; declared = Some name; awaited = awaits })
+facets (text.Task name scheme awaits) = record nothing { built = is_built_scheme scheme; turn = Opens; declared = Some name; awaited = awaits; task_awaits = awaits; scheme = Some scheme }
+facets (text.Finish name) = record nothing { turn = Opens; declared = Some name; promised = Some (declared_promise name 3 false true) }
+facets (text.Group name awaits) = record nothing { turn = Opens; declared = Some name; awaited = awaits }
 facets text.End = record nothing { turn = Closes }
 facets (text.LetLit x words) = makes x [] always (λ ls. length words) (λ ns. steps.Lit words)
 facets (text.LetGen x n start limit) = makes x [] always (λ ls. n) (λ ns. steps.Gen n start limit)
@@ -121,16 +164,17 @@ facets (text.LetCut x a from len) = makes x (a ∷ []) (λ ls. nat_le (from + le
 facets (text.LetJoin x parts) = makes x parts always sum steps.Join
 facets (text.LetSum x a) = makes x (a ∷ []) always one_word (λ ns. steps.Sum (first ns))
 facets (text.LetCount x a) = makes x (a ∷ []) always one_word (λ ns. steps.Count (first ns))
-facets (text.LetStencil1 x l m r k s) = not_built (makes x (l ∷ m ∷ r ∷ []) always second (λ ns. steps.Stencil1 (first ns) (second ns) (slice_index ns 2) k s))
-facets (text.LetStencil2 x north south west east m cols k s) = not_built (makes x (north ∷ south ∷ west ∷ east ∷ m ∷ []) (are_sides cols) (λ ls. slice_index ls 4)
-    (λ ns. steps.Stencil2 (first ns) (second ns) (slice_index ns 2) (slice_index ns 3) (slice_index ns 4) cols k s))
+facets (text.LetStencil1 x l m r k s) = makes x (l ∷ m ∷ r ∷ []) always second (λ ns. steps.Stencil1 (first ns) (second ns) (slice_index ns 2) k s)
+facets (text.LetStencil2 x north south west east m cols k s) = makes x (north ∷ south ∷ west ∷ east ∷ m ∷ []) (are_sides cols) (λ ls. slice_index ls 4)
+    (λ ns. steps.Stencil2 (first ns) (second ns) (slice_index ns 2) (slice_index ns 3) (slice_index ns 4) cols k s)
 facets (text.LetProduct x a v) = not_built (record nothing { made = Some x; used = v ∷ [] })
 facets (text.Put promise local when) = record nothing { used = local ∷ option_to_list when; fits = λ ls. list_all (λ n. n == 1) (drop 1 ls); put_to = Some promise }
 facets (text.DropAwait promise) = record nothing { dropped = Some promise }
-facets (text.CheckRange promise lo hi) = not_built (checks promise [])
-facets (text.CheckTotal promise total) = not_built (checks promise [])
-facets (text.CheckLinear promise base inputs factors) = not_built (checks promise inputs)
-facets (text.CheckConserve promise l m r k s) = not_built (checks promise (l ∷ m ∷ r ∷ []))
-facets (text.CheckConserve2 promise north south west east m cols k s) = not_built (checks promise (north ∷ south ∷ west ∷ east ∷ m ∷ []))
-facets (text.CheckProduct promise a q) = not_built (checks promise (q ∷ []))
-facets (text.CheckUser promise check) = not_built (checks promise [])
+facets (text.CheckRange promise lo hi) = checks promise [] (λ ns. specs.Range lo hi)
+facets (text.CheckTotal promise total) = checks promise [] (λ ns. specs.Total total)
+facets (text.CheckLinear promise base inputs factors) = checks promise inputs (λ ns. specs.Linear base (sixteen_terms ns factors) (length ns))
+facets (text.CheckConserve promise l m r k s) = fitting (checks promise (l ∷ m ∷ r ∷ []) (λ ns. specs.Conserve (first ns) (second ns) (slice_index ns 2) k s)) (λ n ls. n == second ls)
+facets (text.CheckConserve2 promise north south west east m cols k s) = fitting (checks promise (north ∷ south ∷ west ∷ east ∷ m ∷ [])
+    (λ ns. specs.Conserve2 (first ns) (second ns) (slice_index ns 2) (slice_index ns 3) (slice_index ns 4) cols k s)) (λ n ls. n == slice_index ls 4 && are_sides cols ls)
+facets (text.CheckProduct promise a q) = not_built (checks promise (q ∷ []) asks_nothing)
+facets (text.CheckUser promise check) = asks promise check

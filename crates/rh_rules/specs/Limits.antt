@@ -1,9 +1,9 @@
 -- What the grammar's limits give of a statement alone.
-use Rattle.std.specs.Prelude.{ℕ, ◌≤◌, ◌<◌, ◌^◌, ⊤, length}
+use Rattle.std.specs.Prelude.{ℕ, ◌≡◌, ◌≤◌, ◌<◌, ◌^◌, ⊤, length}
 use Rattle.std.specs.List.{AllByRecursion}
-use Rattle.rh_words.specs.declared.limits.TheConstants.{MAX_PROMISE_WORDS, MAX_AWAITS, MAX_SHIFT, MAX_PARTS}
+use Rattle.rh_words.specs.declared.limits.TheConstants.{MAX_PROMISE_WORDS, MAX_AWAITS, MAX_SHIFT, MAX_PARTS, MAX_TERMS}
 use Rattle.rh_task_text.specs.declared.statement.Statement.{Statement}
-use Rattle.rh_task_text.specs.declared.statement.Statement.TheVariants.{Promise, Task, Group, LetLit, LetGen, LetShift, LetCut, LetJoin, LetStencil1, LetStencil2}
+use Rattle.rh_task_text.specs.declared.statement.Statement.TheVariants.{Promise, Task, Group, LetLit, LetGen, LetShift, LetCut, LetJoin, LetStencil1, LetStencil2, CheckLinear, CheckConserve, CheckConserve2}
 
 -- the numbers and lists of the statement are within the limits of the grammar
 abbrev pub IsWithinLimits : Statement → Type 0
@@ -17,4 +17,7 @@ IsWithinLimits (LetCut x a from len) = 0 < len
 IsWithinLimits (LetJoin x parts) = (0 < length parts) × (length parts ≤ MAX_PARTS)
 IsWithinLimits (LetStencil1 x l m r k s) = s ≤ MAX_SHIFT
 IsWithinLimits (LetStencil2 x north south west east m cols k s) = (0 < cols) × (s ≤ MAX_SHIFT)
+IsWithinLimits (CheckConserve promise l m r k s) = s ≤ MAX_SHIFT
+IsWithinLimits (CheckConserve2 promise north south west east m cols k s) = (0 < cols) × (s ≤ MAX_SHIFT)
+IsWithinLimits (CheckLinear promise base inputs factors) = (length inputs ≤ MAX_TERMS) × (length inputs ≡ length factors)
 IsWithinLimits s = ⊤

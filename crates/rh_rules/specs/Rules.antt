@@ -1,5 +1,5 @@
 -- The rules of planning, each said once over all forms, and the reason of a line that breaks one.
-use Rattle.std.specs.Prelude.{ℕ, ◌≡◌, ◌+◌, ◌==◌, List, [], ◌∷◌, Bool, true, false, Option, Some, None, length, not, ◌&&◌, ◌||◌, nat_le, nat_lt, cond, slice_index, ⊤}
+use Rattle.std.specs.Prelude.{ℕ, ◌≡◌, ◌+◌, ◌==◌, List, [], ◌∷◌, Bool, true, false, Option, Some, None, length, not, ◌&&◌, ◌||◌, nat_le, nat_lt, cond, slice_index, is_some, ⊤}
 use Rattle.std.specs.List.{list_any}
 use Rattle.rh_words.specs.declared.limits.TheConstants.{MAX_NODES, MAX_PROMISES, MAX_PROMISE_WORDS, MAX_TOTAL_WORDS, MAX_SHOWN_WORDS}
 use Rattle.rh_words.specs.declared.reason.Reason.{Reason}
@@ -8,20 +8,29 @@ use Rattle.rh_task_text.specs.declared.statement.Statement.{Statement}
 use Rattle.rh_task_text.specs.declared.statement.Statement.TheVariants as text
 use Rattle.rh_task_text.specs.declared.statement.SchemeText.{SchemeText}
 use Rattle.rh_task_text.specs.declared.statement.SchemeText.TheVariants.{Plain, Replicate, Replay, Abft}
+use Rattle.rh_check.specs.Users.{HandedChecks, user_place}
 use Rattle.rh_rules.specs.declared.node.PlannedPromise.{PlannedPromise}
-use Rattle.rh_rules.specs.Tables.{if_any, is_among, is_in, place_of, is_local, is_promise, promise_number, promise_len, is_put, is_own}
+use Rattle.rh_rules.specs.declared.node.Scheme.{Scheme}
+use Rattle.rh_rules.specs.declared.node.Scheme.TheVariants as schemes
+use Rattle.rh_rules.specs.Tables.{LocalName, if_any, is_among, is_in, place_of, is_local, is_promise, promise_number, promise_len, is_put, is_own}
 use Rattle.rh_rules.specs.Facets.{facets}
 use Rattle.rh_rules.specs.Bodies.{promises_put}
-use Rattle.rh_rules.specs.Above.{Look, seen, OpenBlock, ScopeBlock, Facts, facts_above, words_in, shown_in, lens_used, made_len}
+use Rattle.rh_rules.specs.declared.block.OpenBlock.{OpenBlock}
+use Rattle.rh_rules.specs.declared.block.OpenBlock.TheVariants.{ScopeBlock}
+use Rattle.rh_rules.specs.Above.{Look, seen, Facts, facts_above, words_in, shown_in, lens_used, lens_read, made_len}
 
 -- no name stands twice
 abbrev pub are_distinct : List (List ℕ) → Bool
 are_distinct [] = true
 are_distinct (name ∷ names) = not (is_among name names) && are_distinct names
 
+-- the name is that of one of so many first locals
+abbrev pub is_among_first : ℕ → List LocalName → List ℕ → Bool
+is_among_first n locals q = if_any (λ i. nat_lt i n) (place_of q locals)
+
 -- the open task awaits the promise: its first locals are its awaits
 abbrev pub is_await : Facts → List ℕ → Bool
-is_await f q = if_any (λ i. nat_lt i (length f.inputs)) (place_of q f.locals)
+is_await f q = is_among_first (length f.inputs) f.locals q
 
 -- the open task drops the local above
 abbrev pub is_dropped : Facts → List ℕ → Bool
@@ -55,11 +64,13 @@ is_early look f s = list_any (λ q. not (is_put (seen look f.promises) q)) (face
 abbrev pub is_owned : Facts → Statement → Bool
 is_owned f s = if_any (λ q. is_own f.promises q || is_put f.promises q) (facets s).put_to
 
--- Length: the lengths of the locals that it uses do not fit, or what it puts is not as long as its promise.
+-- Length: the lengths of what a check judges and reads do not fit, or what is put is not as long as its promise, or the lengths of the
+-- locals that the line uses do not fit.
 abbrev pub is_misfit : Facts → Statement → Bool
 is_misfit f s =
-    if_any (λ q. not (slice_index (lens_used f.locals s) 0 == promise_len f.promises q)) (facets s).put_to
-    || not ((facets s).fits (lens_used f.locals s))
+    if_any (λ q. not ((facets s).suits (promise_len f.promises q) (lens_read f.locals s))) (facets s).checked
+    || (if_any (λ q. not (slice_index (lens_used f.locals s) 0 == promise_len f.promises q)) (facets s).put_to
+    || not ((facets s).fits (lens_used f.locals s)))
 
 -- the number of attempts is none that a task may have
 abbrev pub is_bad_scheme : SchemeText → Bool
@@ -69,11 +80,11 @@ is_bad_scheme Replicate = false
 is_bad_scheme Abft = false
 
 -- a task of this scheme has checks
-abbrev pub may_check : SchemeText → Bool
-may_check (Replay limit) = true
-may_check Abft = true
-may_check Plain = false
-may_check Replicate = false
+abbrev pub may_check : Scheme → Bool
+may_check (schemes.Replay limit) = true
+may_check schemes.Abft = true
+may_check schemes.Plain = false
+may_check schemes.Replicate = false
 
 -- Scheme: the scheme of a task is none, or has no checks.
 abbrev pub is_misschemed : Facts → Statement → Bool
@@ -104,6 +115,10 @@ is_over f s =
     || if_any (is_promise_over f.promises) (facets s).promised
     || if_any (λ x. nat_lt MAX_PROMISE_WORDS (made_len f.locals s)) (facets s).made
 
+-- NoCheck: no handed-in check has the name that it asks.
+abbrev pub is_unanswered : HandedChecks → Statement → Bool
+is_unanswered handed s = if_any (λ name. not (is_some (user_place handed name))) (facets s).asked
+
 -- The reason of a statement that breaks a rule, where these facts are above it: the first that holds.
 abbrev pub reason_in : Look → Facts → Statement → Option Reason
 reason_in look f s =
@@ -115,7 +130,8 @@ reason_in look f s =
     (cond (is_misfit f s) (Some reasons.Length)
     (cond (is_misschemed f s) (Some reasons.Scheme)
     (cond (is_after_drop f s) (Some reasons.Dropped)
-    (cond (is_over f s) (Some reasons.PlanLimit) None))))))))
+    (cond (is_over f s) (Some reasons.PlanLimit)
+    (cond (is_unanswered look.handed s) (Some reasons.NoCheck) None)))))))))
 
 -- the reason of a statement below these
 abbrev pub reason_at : Look → List Statement → Statement → Option Reason

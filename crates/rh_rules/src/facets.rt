@@ -95,7 +95,7 @@ pub fn fits(statement: &Statement, lens: &[u32]) -> bool
 }
 
 /// Whether the first four are the sides of the fifth, a grid in rows of `cols` words.
-fn are_sides(cols: u64, lens: &[u32]) -> bool
+pub(crate) fn are_sides(cols: u64, lens: &[u32]) -> bool
     requires { length lens.now ≡ 5 }
     ensures { result ≡ are_sides cols lens.now }
 {

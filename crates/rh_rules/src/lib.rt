@@ -3,6 +3,8 @@
 //! and what holds of every plan (`Lawful`). The code has the data, and the rows as functions.
 #![tactic(auto)]
 
+mod asking;
+mod block;
 mod body;
 mod checks;
 mod facets;
@@ -10,6 +12,8 @@ mod local;
 mod node;
 mod numbers;
 
+pub use asking::{asked, list_inputs, spec_of, suits};
+pub use block::OpenBlock;
 pub use body::{Body, Step};
 pub use checks::{CheckList, PlannedCheck};
 pub use facets::{fits, list_used, made, made_len, step_of};

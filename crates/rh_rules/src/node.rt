@@ -3,7 +3,7 @@
 use crate::body::Body;
 use crate::checks::CheckList;
 use crate::numbers::Numbers;
-use rh_words::Name;
+use rh_words::{Name, NameList};
 
 /// What a node is.
 #[derive(Clone, Copy, PartialEq, Eq)]
@@ -48,6 +48,8 @@ pub struct Node {
     pub body: Body,
     /// The checks of a task, in order. A group and a scope have none.
     pub checks: CheckList,
+    /// The names of the results of its `let` lines, in order. A group and a scope have none.
+    pub lets: NameList,
 }
 
 /// A promise.

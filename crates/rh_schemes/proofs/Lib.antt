@@ -3,3 +3,5 @@ pub mod Firsts
 pub mod Tasks
 pub mod Replaying
 pub mod Checkings
+pub mod Correctings
+pub mod Restorings

@@ -14,7 +14,8 @@ use Rattle.rh_plan.specs.Plans.{PlanData}
 use Rattle.rh_plan.specs.Buffers.{BufferData}
 use Rattle.rh_plan.specs.Checking.{first_failing}
 use Rattle.rh_plan.specs.Judging.{node_result, refused, replayed, replayed_after, attempts_of, judged_by}
-use Rattle.rh_plan.specs.Attempts.{attempts_made, correction}
+use Rattle.rh_plan.specs.Correcting.{correction}
+use Rattle.rh_plan.specs.Attempts.{attempts_made}
 use Rattle.rh_plan.proofs.Attempts.{length-attempts_made, attempt_at}
 use Rattle.rh_schemes.specs.declared.result.NodeResult.{NodeResult}
 use Rattle.rh_attempt.specs.Attempting.{IsAttemptAt}

@@ -1,6 +1,5 @@
 -- What a task that is judged needs and gives.
-use Rattle.std.proofs.Common.{◌≡◌, ℕ, List, [], ◌∷◌, Bool, true, false, Some, None, length, map, refl, ap, sym, ◌∙◌, subst, inl, inr}
-use Rattle.std.proofs.lemmas.Bool.{false≢true, cases_Bool}
+use Rattle.std.proofs.Common.{◌≡◌, ℕ, List, [], ◌∷◌, Some, map, ap, sym, ◌∙◌}
 use Rattle.std.proofs.lemmas.Option.{same_Some}
 use Rattle.std.specs.List.{slice_get, range_with_len}
 use Rattle.rh_injector.specs.declared.faults.Strike.{Strike}
@@ -14,7 +13,8 @@ use Rattle.rh_plan.specs.Buffers.{BufferData}
 use Rattle.rh_plan.specs.Checking.{first_failing}
 use Rattle.rh_plan.specs.Judging as meaning
 use Rattle.rh_plan.specs.Judging.{are_same, replicated, attempts_of, judged_by}
-use Rattle.rh_plan.specs.Attempts.{attempt_of, attempts_made, correction}
+use Rattle.rh_plan.specs.Correcting.{correction}
+use Rattle.rh_plan.specs.Attempts.{attempt_of, attempts_made}
 use Rattle.rh_schemes.specs.declared.result.NodeResult.{NodeResult}
 use Rattle.rh_attempt.specs.Attempting.{IsAttemptAt}
 use Rattle.rh_schemes.specs.Judges.{JudgesAs, HasScheme, result_data}

@@ -1,6 +1,7 @@
 -- The checks of a task as a plan has them, without the kept specs of handed-in checks, over the checks that are handed in.
-use Rattle.std.specs.Prelude.{ℕ, ◌≡◌, List, Bool, not, Option, Some, slice_get}
+use Rattle.std.specs.Prelude.{ℕ, ◌≡◌, List, Bool, not, Option, Some}
 use Rattle.std.specs.List.{position}
+use Rattle.rh_sparse.specs.Matrix.{MatrixData}
 use Rattle.rh_check.specs.declared.spec.UserSpec.{UserSpec}
 use Rattle.rh_check.specs.Checks.{spec_passes}
 use Rattle.rh_check.specs.Users.{user_named}
@@ -10,17 +11,18 @@ use Rattle.rh_plan.specs.Plans.{PlanData, OfNode}
 use Rattle.rh_plan.specs.Buffers.{BufferData, words_put}
 use Rattle.rh_plan.specs.Checking.{passes_where_put, first_failing}
 
--- The check can be made of this buffer. The arguments are what the handed-in checks ask, the awaited words and the buffer.
-abbrev pub CanBeMade : List UserSpec → List (List ℕ) → BufferData → PlannedCheck → Type 0
-CanBeMade users inputs buffer check = (words : List ℕ) → words_put check.promise buffer.puts ≡ Some words → FitsInputs inputs words users check.spec
+-- The check can be made of this buffer. The arguments are the matrices, what the handed-in checks ask, the
+-- awaited words and the buffer.
+abbrev pub CanBeMade : List MatrixData → List UserSpec → List (List ℕ) → BufferData → PlannedCheck → Type 0
+CanBeMade matrices users inputs buffer check = (words : List ℕ) → words_put check.promise buffer.puts ≡ Some words → FitsInputs matrices inputs words users check.spec
 
 -- a check passes by what the handed-in checks ask
-abbrev pub planned_passes : List UserSpec → List (List ℕ) → BufferData → PlannedCheck → Bool
-planned_passes users inputs buffer check = passes_where_put (spec_passes (user_named users check.spec) inputs check.spec) (words_put check.promise buffer.puts)
+abbrev pub planned_passes : List MatrixData → List UserSpec → List (List ℕ) → BufferData → PlannedCheck → Bool
+planned_passes matrices users inputs buffer check = passes_where_put (spec_passes (user_named users check.spec) matrices inputs check.spec) (words_put check.promise buffer.puts)
 
 -- the number of the first check that does not pass
-abbrev pub first_planned : List UserSpec → List (List ℕ) → BufferData → List PlannedCheck → Option ℕ
-first_planned users inputs buffer checks = position (λ c. not (planned_passes users inputs buffer c)) checks
+abbrev pub first_planned : List MatrixData → List UserSpec → List (List ℕ) → BufferData → List PlannedCheck → Option ℕ
+first_planned matrices users inputs buffer checks = position (λ c. not (planned_passes matrices users inputs buffer c)) checks
 
 -- the first check of the task that the buffer fails
 abbrev pub IsFirstFailingAt : PlanData → ℕ → List (List ℕ) → BufferData → Option ℕ → Type 0

@@ -1,8 +1,8 @@
 -- What judging a task of a plan answers.
-use Rattle.std.specs.Prelude.{ℕ, ◌≡◌, ◌≢◌, List}
+use Rattle.std.specs.Prelude.{ℕ, ◌≡◌, List}
 use Rattle.rh_injector.specs.declared.faults.Strike.{Strike}
 use Rattle.rh_rules.specs.declared.node.Scheme.{Scheme}
-use Rattle.rh_rules.specs.declared.node.Scheme.TheVariants.{Replay, Abft}
+use Rattle.rh_rules.specs.declared.node.Scheme.TheVariants.{Replay}
 use Rattle.rh_plan.specs.Plans.{PlanData, OfNode}
 use Rattle.rh_plan.specs.Judging.{node_result}
 use Rattle.rh_plan.specs.Judging as meaning
@@ -24,11 +24,3 @@ HasScheme plan v scheme = OfNode plan v (λ node. node.scheme ≡ scheme)
 -- the node is replayed
 abbrev pub IsReplayed : PlanData → ℕ → Type 0
 IsReplayed plan v = OfNode plan v (λ node. (limit : ℕ) × (node.scheme ≡ Replay limit))
-
--- The scheme of the node is plain, replication or replay. The correction of a product is not built yet.
-abbrev pub HasBuiltScheme : PlanData → ℕ → Type 0
-HasBuiltScheme plan v = OfNode plan v (λ node. node.scheme ≢ Abft)
-
--- the schemes of all nodes are built
-abbrev pub AreBuiltSchemes : PlanData → Type 0
-AreBuiltSchemes plan = (v : ℕ) → HasBuiltScheme plan v

@@ -5,23 +5,24 @@ ghost use Rattle.std.specs.List.{AllByRecursion};
 ghost use Rattle.rh_schemes.specs.Checking.{CanBeMade, planned_passes, first_planned};
 
 use rh_attempt::Buffer;
-use rh_check::{Checks, passes};
+use rh_check::{Checks, Matrices, passes};
 use rh_rules::PlannedCheck;
 use rh_words::Inputs;
 
 /// The number of the first check that the buffer fails.
 pub(crate) fn first_failing<I: Inputs, C: Checks>(
     checks: &[PlannedCheck],
+    matrices: &Matrices,
     handed: &C,
     inputs: &I,
     buffer: &Buffer,
 ) -> Option<u32>
     requires few { length checks.now ≤ 16 }
-    requires fits { AllByRecursion (CanBeMade (C.specs handed.now) (I.lists inputs.now) buffer.now) checks.now }
-    ensures { result ≡ first_planned (C.specs handed.now) (I.lists inputs.now) buffer.now checks.now }
+    requires fits { AllByRecursion (CanBeMade matrices.now (C.specs handed.now) (I.lists inputs.now) buffer.now) checks.now }
+    ensures { result ≡ first_planned matrices.now (C.specs handed.now) (I.lists inputs.now) buffer.now checks.now }
 {
     for (which, check) in checks.iter().enumerate() {
-        if !check_passes(check, handed, inputs, buffer) {
+        if !check_passes(check, matrices, handed, inputs, buffer) {
             return Some(which as u32);
         }
     }
@@ -31,15 +32,16 @@ pub(crate) fn first_failing<I: Inputs, C: Checks>(
 /// Whether the check passes: it does where the buffer does not put its promise.
 fn check_passes<I: Inputs, C: Checks>(
     check: &PlannedCheck,
+    matrices: &Matrices,
     handed: &C,
     inputs: &I,
     buffer: &Buffer,
 ) -> bool
-    requires { CanBeMade (C.specs handed.now) (I.lists inputs.now) buffer.now check.now }
-    ensures { result ≡ planned_passes (C.specs handed.now) (I.lists inputs.now) buffer.now check.now }
+    requires { CanBeMade matrices.now (C.specs handed.now) (I.lists inputs.now) buffer.now check.now }
+    ensures { result ≡ planned_passes matrices.now (C.specs handed.now) (I.lists inputs.now) buffer.now check.now }
 {
     match buffer.put_of(check.promise) {
         None => true,
-        Some(words) => passes(&check.spec, handed, inputs, words.as_slice()),
+        Some(words) => passes(&check.spec, matrices, handed, inputs, words.as_slice()),
     }
 }

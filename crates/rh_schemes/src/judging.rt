@@ -5,13 +5,16 @@ ghost use Rattle.rh_plan.specs.Asked.{IsTaskOn};
 ghost use Rattle.rh_plan.specs.Users.{AreChecksOf};
 ghost use Rattle.rh_attempt.specs.Attempting.{IsAttemptAt};
 ghost use Rattle.rh_plan.specs.Judging.{node_result, are_same, replicated};
-ghost use Rattle.rh_rules.specs.declared.node.Scheme.TheVariants.{Plain, Replicate, Replay};
+ghost use Rattle.rh_rules.specs.declared.node.Scheme.TheVariants.{Plain, Replicate, Replay, Abft};
 ghost use Rattle.rh_plan.specs.declared.outcome.Trial.TheVariants as trial;
-ghost use Rattle.rh_plan.specs.declared.outcome.Verdict.TheVariants.{Accepted, Failed};
+ghost use Rattle.rh_plan.specs.declared.outcome.Verdict.TheVariants.{Accepted, Corrected, Failed};
 ghost use Rattle.rh_schemes.specs.Checking.{IsFirstFailingAt};
-ghost use Rattle.rh_schemes.specs.Judges.{JudgesAs, HasScheme, HasBuiltScheme, IsReplayed, result_data};
+ghost use Rattle.rh_schemes.specs.Judges.{JudgesAs, HasScheme, IsReplayed, result_data};
+ghost use Rattle.rh_plan.specs.Buffers.{PutsFit};
+ghost use Rattle.rh_schemes.specs.Correcting.{placed, CorrectsAs, IsCheckedAgain, IsRestoredAt};
 
 use crate::checking::first_failing;
+use crate::correcting::restore;
 use crate::gate::Gate;
 use crate::result::{NodeResult, Trials};
 use rh_attempt::{Buffer, attempt};
@@ -82,8 +85,10 @@ fn gated<I: Inputs, G: Gate>(
     gate: &G,
 ) -> Result<Buffer, OutOfMemory>
     requires { IsTaskOn plan.now node (I.lists inputs.now) }
-    ensures { IfOk result (λ buffer. IsAttemptAt plan.now faults.now node (I.lists inputs.now) k buffer) }
+    ensures made { IfOk result (λ buffer. IsAttemptAt plan.now faults.now node (I.lists inputs.now) k buffer) }
+    ensures fits { IfOk result (λ buffer. PutsFit plan.now buffer.puts) }
 {
+    let _known = plan.nodes();
     gate.before_attempt(worker, node, k);
     let buffer = attempt(alloc, plan, node, k, inputs, faults);
     gate.after_attempt(worker, node, k);
@@ -172,10 +177,114 @@ fn failing<I: Inputs, C: Checks>(
 ) -> Option<u32>
     requires task { IsTaskOn plan.now node (I.lists inputs.now) }
     requires checks { AreChecksOf plan.now (C.specs checks.now) }
+    requires fits { PutsFit plan.now buffer.now.puts }
     ensures { IsFirstFailingAt plan.now node (I.lists inputs.now) buffer.now result }
 {
     let _known = plan.nodes();
-    first_failing(plan.checks_of(node), checks, inputs, buffer)
+    first_failing(
+        plan.checks_of(node),
+        plan.matrices(),
+        checks,
+        inputs,
+        buffer,
+    )
+}
+
+/// Judges a task that is corrected: its one attempt is accepted where it passes all checks, and else with one word restored of the put
+/// that its check of a product reads, where it passes all checks then.
+pub fn abft<I: Inputs, C: Checks, G: Gate>(
+    alloc: Global,
+    worker: u32,
+    plan: &Plan,
+    node: u32,
+    inputs: &I,
+    faults: &Faults,
+    checks: &C,
+    gate: &G,
+) -> Result<NodeResult, OutOfMemory>
+    requires task { IsTaskOn plan.now node (I.lists inputs.now) }
+    requires checks { AreChecksOf plan.now (C.specs checks.now) }
+    requires scheme { HasScheme plan.now node Abft }
+    ensures { IfOk result (λ r. JudgesAs plan.now faults.now node (I.lists inputs.now) r) }
+{
+    let buffer = gated(alloc, worker, plan, node, 0, inputs, faults, gate)?;
+    match failing(plan, node, inputs, checks, &buffer) {
+        None => accepted(alloc, 0, &[Trial::Accepted], buffer),
+        Some(which) => corrected(alloc, plan, node, inputs, checks, which, buffer),
+    }
+}
+
+/// A buffer that fails the check `which` is accepted with one word restored, or the task fails.
+fn corrected<I: Inputs, C: Checks>(
+    alloc: Global,
+    plan: &Plan,
+    node: u32,
+    inputs: &I,
+    checks: &C,
+    which: u32,
+    buffer: Buffer,
+) -> Result<NodeResult, OutOfMemory>
+    requires task { IsTaskOn plan.now node (I.lists inputs.now) }
+    requires checks { AreChecksOf plan.now (C.specs checks.now) }
+    requires fits { PutsFit plan.now buffer.puts }
+    ensures { IfOk result (λ r. CorrectsAs plan.now node (I.lists inputs.now) which buffer r) }
+{
+    let mut fixed = buffer;
+    let word = restored(alloc, plan, node, inputs, &mut fixed)?;
+    match word {
+        None => failed(alloc, &[Trial::Refused { which }]),
+        Some(at) => checked_again(alloc, plan, node, inputs, checks, which, at, fixed),
+    }
+}
+
+/// A buffer in which the word at a place was restored is accepted where it passes all checks. Else the task fails, whose own buffer
+/// fails the check `which`.
+fn checked_again<I: Inputs, C: Checks>(
+    alloc: Global,
+    plan: &Plan,
+    node: u32,
+    inputs: &I,
+    checks: &C,
+    which: u32,
+    word: u32,
+    fixed: Buffer,
+) -> Result<NodeResult, OutOfMemory>
+    requires task { IsTaskOn plan.now node (I.lists inputs.now) }
+    requires checks { AreChecksOf plan.now (C.specs checks.now) }
+    requires fits { PutsFit plan.now fixed.puts }
+    ensures { IfOk result (λ r. IsCheckedAgain plan.now node (I.lists inputs.now) which word fixed r) }
+{
+    match failing(plan, node, inputs, checks, &fixed) {
+        None => accepted_with(alloc, word, fixed),
+        Some(_) => failed(alloc, &[Trial::Refused { which }]),
+    }
+}
+
+/// Restores the one word that was altered of the put that the task's check of a product reads, and answers its place.
+fn restored<I: Inputs>(
+    alloc: Global,
+    plan: &Plan,
+    node: u32,
+    inputs: &I,
+    buffer: &mut Buffer,
+) -> Result<Option<u32>, OutOfMemory>
+    requires task { IsTaskOn plan.now node (I.lists inputs.now) }
+    requires fits { PutsFit plan.now buffer.old.puts }
+    ensures { IfOk result (λ word. IsRestoredAt plan.now node (I.lists inputs.now) buffer.old (placed word buffer.new)) }
+{
+    let _known = plan.nodes();
+    restore(alloc, plan.checks_of(node), plan.matrices(), inputs, buffer)
+}
+
+/// The buffer is accepted with this word restored.
+fn accepted_with(alloc: Global, word: u32, buffer: Buffer) -> Result<NodeResult, OutOfMemory>
+    ensures { IfOk result (λ r. result_data r ≡ node_result (Corrected word) (trial.Corrected word ∷ []) (Some buffer)) }
+{
+    Ok(NodeResult {
+        verdict: Verdict::Corrected { word },
+        trials: Trials::from_slice(alloc, &[Trial::Corrected { word }])?,
+        accepted: Some(buffer),
+    })
 }
 
 /// Judges a task by its scheme.
@@ -191,7 +300,6 @@ pub fn judge<I: Inputs, C: Checks, G: Gate>(
 ) -> Result<NodeResult, OutOfMemory>
     requires task { IsTaskOn plan.now node (I.lists inputs.now) }
     requires checks { AreChecksOf plan.now (C.specs checks.now) }
-    requires built { HasBuiltScheme plan.now node }
     ensures { IfOk result (λ r. JudgesAs plan.now faults.now node (I.lists inputs.now) r) }
 {
     match plan.scheme(node) {
@@ -201,7 +309,8 @@ pub fn judge<I: Inputs, C: Checks, G: Gate>(
             )
         }
         Scheme::Replicate => replicate(alloc, worker, plan, node, inputs, faults, checks, gate),
-        _ => plainly(alloc, worker, plan, node, inputs, faults, gate),
+        Scheme::Abft => abft(alloc, worker, plan, node, inputs, faults, checks, gate),
+        Scheme::Plain => plainly(alloc, worker, plan, node, inputs, faults, gate),
     }
 }
 

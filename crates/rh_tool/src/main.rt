@@ -1,9 +1,13 @@
-//! The program `rh_tool`, which runs task programs: `rh_tool run FILE`.
-//! It hands its words, the real files and the two streams to `top`, and ends with the status that this answers.
+//! The program `rh_tool`, which runs task programs: `rh_tool run FILE`, or `rh_tool run FILE --faults FILE`.
+//! It hands its words, the real files, the two streams and two checks to `top`, and ends with the status that this answers.
 #![tactic(auto)]
 
+use rh_check::{NoChecks, StoredCheck, UserSpec, With, all_bytes, sums_to_zero};
 use rh_outside::{FsShelf, StdSink};
+use rh_schemes::OpenGate;
 pub use rh_top::{top, want_memory};
+use rh_words::Name;
+use std::boxed::Box;
 use std::env::Env;
 use std::io::ErrorKind;
 use std::process::ExitCode;
@@ -13,13 +17,50 @@ fn main(rt: HostRuntime) -> ExitCode {
     let mut files = FsShelf::new(&rt);
     let mut out = StdSink::new(io::writer(&rt));
     let mut err = StdSink::new(rt.stderr());
-    let status = match read_words(&rt) {
-        Arguments::Read(words) => top(rt.alloc(), &words, &mut files, &mut out, &mut err),
-        // No words at all are bad words too.
-        Arguments::Unreadable => top(rt.alloc(), &[], &mut files, &mut out, &mut err),
-        Arguments::OutOfMemory => want_memory(&mut err),
+    let words = match read_words(&rt) {
+        Arguments::Read(words) => words,
+        // Words that cannot be read are bad words, as no words at all are.
+        Arguments::Unreadable => Vec::new(rt.alloc()),
+        Arguments::OutOfMemory => return ExitCode::from(want_memory(&mut err)),
     };
+    // What `check user P byte` and `check user P zero_sum` ask.
+    let Ok(byte) = Box::new(rt.alloc(), |words: &[u64]| all_bytes(words)) else {
+        return ExitCode::from(want_memory(&mut err));
+    };
+    let Ok(zero_sum) = Box::new(rt.alloc(), |words: &[u64]| sums_to_zero(words)) else {
+        return ExitCode::from(want_memory(&mut err));
+    };
+    let checks = With {
+        first: StoredCheck::new(byte_name(), UserSpec::Range { lo: 0, hi: 255 }, byte),
+        rest: With {
+            first: StoredCheck::new(zero_sum_name(), UserSpec::Total { sum: 0 }, zero_sum),
+            rest: NoChecks,
+        },
+    };
+    let status = top(
+        rt.alloc(),
+        &words,
+        &mut files,
+        &mut out,
+        &mut err,
+        &checks,
+        &OpenGate,
+    );
     ExitCode::from(status)
+}
+
+fn byte_name() -> Name {
+    match Name::read(b"byte") {
+        Some(name) => name,
+        None => unreachable!(),
+    }
+}
+
+fn zero_sum_name() -> Name {
+    match Name::read(b"zero_sum") {
+        Some(name) => name,
+        None => unreachable!(),
+    }
 }
 
 /// The words after the program's name.

@@ -1,6 +1,9 @@
 pub mod ProgramTexts
+pub mod FaultFiles
+pub mod FilesRead
+pub mod RunSteps
 pub mod OneAnswer
 pub mod SomeAnswer
 pub mod Statuses
 pub mod CallEnds
-pub mod PlainPlans
+pub mod OneThread

@@ -217,3 +217,330 @@ promise answer by react void
 promise note by log attempt 0 temp
 total tasks 3 accepted 2 failed 0 skipped 1 puts 2 faults 0 of 0
 ";
+
+/// Scopes and groups within one another, one of which stays closed.
+pub const SCOPES: &[u8] = b"rhc 1
+# A scope counts how the tasks inside it ended, at any depth. The limit is not reached, so no alarm is put, the group that
+# awaits it stays closed, and what stands in it is skipped.
+promise load 2
+promise alarm 1
+promise answer 1
+promise sink 1
+promise note 1
+promise seen 1
+promise counts 3
+
+finish all
+  task measure plain
+    let v lit 3 4
+    let over lit 0
+    let one lit 1
+    put load v
+    put alarm one when over
+  end
+
+  group react await alarm
+    finish inner
+      task answers plain await load
+        let s sum load
+        put answer s
+      end
+      group deep await load
+        task sinks plain
+          let v lit 1
+          put sink v
+        end
+      end
+    end
+    task after plain await inner
+      let s sum inner
+      put note s
+    end
+  end
+
+  group watch await load
+    finish watched
+      task look plain await load
+        let s sum load
+        put seen s
+      end
+    end
+  end
+end
+
+task tell plain await all
+  put counts all
+end
+";
+
+pub const SCOPES_REPORT: &[u8] = b"rhr 1
+task measure accepted 0
+  attempt 0 accepted
+group react closed by alarm
+task answers skipped by react
+group deep closed by react
+task sinks skipped by deep
+finish inner 0 0 2
+task after skipped by react
+group watch opened
+task look accepted 0
+  attempt 0 accepted
+finish watched 1 0 0
+finish all 2 0 3
+task tell accepted 0
+  attempt 0 accepted
+promise load by measure attempt 0: 3 4
+promise alarm by measure void
+promise answer by answers void
+promise sink by sinks void
+promise note by after void
+promise seen by look attempt 0: 7
+promise counts by tell attempt 0: 2 0 3
+total tasks 6 accepted 3 failed 0 skipped 3 puts 3 faults 0 of 0
+";
+
+/// A fault in one attempt of a replicated task.
+pub const REPLICATED: &[u8] = b"rhc 1
+# The sum is replicated: a fault in one of its attempts changes nothing.
+promise samples 4
+promise total 1
+
+task read plain
+  let v lit 16 32 48 64
+  put samples v
+end
+
+task add replicate await samples
+  let s sum samples
+  put total s
+end
+";
+
+pub const REPLICATED_FAULTS: &[u8] = b"rhf 1
+# Attempt 1 of add reads 49 in place of 48.
+fault add 1 samples 2 0x1
+";
+
+pub const REPLICATED_REPORT: &[u8] = b"rhr 1
+task read accepted 0
+  attempt 0 accepted
+task add accepted 0
+  attempt 0 accepted
+  attempt 1 differed
+  attempt 2 agreed
+promise samples by read attempt 0: 16 32 48 64
+promise total by add attempt 0: 160
+total tasks 2 accepted 2 failed 0 skipped 0 puts 2 faults 1 of 1
+";
+
+/// A check refuses two attempts of a replayed task.
+pub const REPLAYED: &[u8] = b"rhc 1
+# A replayed task is tried again until what it puts passes its check: the words must sum to 30.
+promise x 2
+
+task a replay 3
+  let v lit 10 20
+  put x v
+  check total x 30
+end
+";
+
+pub const REPLAYED_FAULTS: &[u8] = b"rhf 1
+# The sums are 31 and 38, and then 30.
+fault a 0 v 0 0x1
+fault a 1 v 1 0x8
+";
+
+pub const REPLAYED_REPORT: &[u8] = b"rhr 1
+task a accepted 2
+  attempt 0 refused 0
+  attempt 1 refused 0
+  attempt 2 accepted
+promise x by a attempt 2: 10 20
+total tasks 1 accepted 1 failed 0 skipped 0 puts 1 faults 2 of 2
+";
+
+/// More faults than a replicated task tolerates.
+pub const OVER_BUDGET: &[u8] = b"rhc 1
+# A replicated task tolerates a fault in one attempt. With faults in two, no two of its attempts agree: it fails, and
+# what awaits it is skipped.
+promise x 2
+promise y 2
+
+task a replicate
+  let v lit 5 6
+  put x v
+end
+
+task b plain await x
+  put y x
+end
+";
+
+pub const OVER_BUDGET_FAULTS: &[u8] = b"rhf 1
+# The attempts put 4 6, 7 6 and 5 6.
+fault a 0 v 0 0x1
+fault a 1 v 0 0x2
+";
+
+pub const OVER_BUDGET_REPORT: &[u8] = b"rhr 1
+task a failed
+  attempt 0 differed
+  attempt 1 differed
+  attempt 2 differed
+task b skipped by x
+promise x by a void
+promise y by b void
+total tasks 2 accepted 0 failed 1 skipped 1 puts 0 faults 2 of 2
+";
+
+/// A step of heat in three tiles, one of which is faulted.
+pub const HEAT: &[u8] = b"rhc 1
+# One step of heat along a ring of six words in three tiles. Each tile is stepped between its two neighbours: a quarter of the
+# difference flows from a word to the next. A step is replayed where its words do not have the sum that the check asks for.
+promise a 2
+promise b 2
+promise c 2
+promise stepped_a 2
+promise stepped_b 2
+promise stepped_c 2
+promise heat 1
+
+task start plain
+  let x lit 8 0
+  let y lit 4 4
+  let z lit 0 16
+  put a x
+  put b y
+  put c z
+end
+
+task step_a replay 2 await c a b
+  let t stencil1 c a b 1 2
+  put stepped_a t
+  check conserve stepped_a c a b 1 2
+end
+
+task step_b replay 2 await a b c
+  let t stencil1 a b c 1 2
+  put stepped_b t
+  check conserve stepped_b a b c 1 2
+end
+
+task step_c replay 2 await b c a
+  let t stencil1 b c a 1 2
+  put stepped_c t
+  check conserve stepped_c b c a 1 2
+end
+
+task sum plain await stepped_a stepped_b stepped_c
+  let j join stepped_a stepped_b stepped_c
+  let s sum j
+  put heat s
+end
+";
+
+pub const HEAT_FAULTS: &[u8] = b"rhf 1
+# The second word of the middle tile is 3 after its step; in the first attempt it is 7.
+fault step_b 0 t 1 0x4
+";
+
+pub const HEAT_REPORT: &[u8] = b"rhr 1
+task start accepted 0
+  attempt 0 accepted
+task step_a accepted 0
+  attempt 0 accepted
+task step_b accepted 1
+  attempt 0 refused 0
+  attempt 1 accepted
+task step_c accepted 0
+  attempt 0 accepted
+task sum accepted 0
+  attempt 0 accepted
+promise a by start attempt 0: 8 0
+promise b by start attempt 0: 4 4
+promise c by start attempt 0: 0 16
+promise stepped_a by step_a attempt 0: 8 3
+promise stepped_b by step_b attempt 1: 3 3
+promise stepped_c by step_c attempt 0: 5 10
+promise heat by sum attempt 0: 32
+total tasks 5 accepted 5 failed 0 skipped 0 puts 7 faults 1 of 1
+";
+
+/// Equal faults in two replicas.
+pub const EQUAL_FAULTS: &[u8] = b"rhc 1
+# Equal faults in both replicas: they agree on altered words, and no vote can tell.
+promise x 2
+
+task a replicate
+  let v lit 5 6
+  put x v
+end
+";
+
+pub const EQUAL_FAULTS_TEXT: &[u8] = b"rhf 1
+fault a 0 v 0 4
+fault a 1 v 0 4
+";
+
+pub const EQUAL_FAULTS_REPORT: &[u8] = b"rhr 1
+task a accepted 0
+  attempt 0 accepted
+  attempt 1 agreed
+promise x by a attempt 0: 1 6
+total tasks 1 accepted 1 failed 0 skipped 0 puts 1 faults 2 of 2
+";
+
+/// Faults that cancel in the checked sum.
+pub const PASSING_FAULTS: &[u8] = b"rhc 1
+# The faults of attempt 0 cancel in the sum: the check passes, and the altered words stand.
+promise x 2
+
+task a replay 3
+  let v lit 10 20
+  put x v
+  check total x 30
+end
+";
+
+pub const PASSING_FAULTS_TEXT: &[u8] = b"rhf 1
+fault a 0 v 0 2
+fault a 0 v 1 2
+";
+
+pub const PASSING_FAULTS_REPORT: &[u8] = b"rhr 1
+task a accepted 0
+  attempt 0 accepted
+promise x by a attempt 0: 8 22
+total tasks 1 accepted 1 failed 0 skipped 0 puts 1 faults 2 of 2
+";
+
+/// A fault in a task that is skipped.
+pub const SKIPPED_FAULT: &[u8] = b"rhc 1
+# The fault names a task that is skipped without faults too: no attempt of it is made.
+promise alarm 1
+promise answer 1
+
+task watch plain
+  let calm lit 0
+  put alarm calm when calm
+end
+
+task react plain await alarm
+  let s sum alarm
+  put answer s
+end
+";
+
+pub const SKIPPED_FAULT_TEXT: &[u8] = b"rhf 1
+fault react 0 s 0 1
+";
+
+pub const SKIPPED_FAULT_REPORT: &[u8] = b"rhr 1
+task watch accepted 0
+  attempt 0 accepted
+task react skipped by alarm
+promise alarm by watch void
+promise answer by react void
+total tasks 2 accepted 1 failed 0 skipped 1 puts 0 faults 0 of 1
+";

@@ -6,8 +6,14 @@
 mod command;
 #[cfg(test)]
 mod examples;
+#[cfg(test)]
+mod fault_tests;
 mod laws;
+#[cfg(test)]
+mod library;
 mod printing;
+#[cfg(test)]
+mod scheme_tests;
 mod status;
 #[cfg(test)]
 mod tests;
@@ -15,7 +21,7 @@ mod texts;
 mod tool;
 
 pub use laws::{
-    a_call_has_one_answer, a_program_has_a_plan_or_is_refused, statuses_are_exact,
-    told_files_give_an_answer,
+    a_call_has_one_answer, a_fault_file_has_faults_or_is_refused,
+    a_program_has_a_plan_or_is_refused, statuses_are_exact, told_files_give_an_answer,
 };
 pub use tool::{top, want_memory};

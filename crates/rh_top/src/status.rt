@@ -5,12 +5,16 @@ ghost use Rattle.std.specs.Prelude.{◌≡◌};
 /// How a call of the program ends.
 #[derive(Clone, Copy)]
 pub enum Status {
-    /// All that was asked was written.
+    /// All that was asked was written, and no task failed.
     Done,
+    /// All that was asked was written, and a task failed.
+    TaskFailed,
     /// The words are no command.
     BadWords,
     /// The program is over its limit, or a line of it is refused.
     ProgramRefused,
+    /// The fault file is over its limit, or a line of it is refused.
+    FaultsRefused,
     /// A file could not be read.
     StoreFailed,
     /// The output broke off.
@@ -28,8 +32,10 @@ impl Status {
     {
         match self {
             Status::Done => 0,
+            Status::TaskFailed => 1,
             Status::BadWords => 2,
             Status::ProgramRefused => 3,
+            Status::FaultsRefused => 4,
             Status::StoreFailed => 5,
             Status::OutputFailed => 6,
             Status::OutOfMemory => 7,

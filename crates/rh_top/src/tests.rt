@@ -2,10 +2,12 @@
 
 use crate::examples::{
     CHAIN, CHAIN_REPORT, DIAMOND, DIAMOND_REPORT, KERNELS, KERNELS_REPORT, REFUSED,
-    REFUSED_MESSAGE, SKIPPING, SKIPPING_REPORT, TOTALS, TOTALS_REPORT,
+    REFUSED_MESSAGE, SCOPES, SCOPES_REPORT, SKIPPING, SKIPPING_REPORT, TOTALS, TOTALS_REPORT,
 };
 use crate::{top, want_memory};
+use rh_check::NoChecks;
 use rh_outside::{MemShelf, MemSink, NeverFails, Shelf};
+use rh_schemes::OpenGate;
 use rh_words::OutOfMemory;
 use std::alloc::{AllocError, Global};
 use std::fmt::Write;
@@ -17,18 +19,18 @@ const EMPTY_REPORT: &[u8] =
 const TOO_LONG: &[u8] = b"rh: program line 0 reason 9 Limit\n";
 
 /// What a call must answer: its status, and what `out` and `err` must have taken then.
-type Want<'a> = (u8, &'a [u8], &'a [u8]);
+pub type Want<'a> = (u8, &'a [u8], &'a [u8]);
 
 /// The two outputs of a call.
 #[derive(Drop)]
-struct Outputs {
+pub struct Outputs {
     alloc: Global,
     out: MemSink,
     err: MemSink,
 }
 
 impl Outputs {
-    fn new(alloc: Global, room: usize, err_room: usize) -> Result<Outputs, OutOfMemory> {
+    pub fn new(alloc: Global, room: usize, err_room: usize) -> Result<Outputs, OutOfMemory> {
         Ok(Outputs {
             alloc,
             out: MemSink::new(alloc, room)?,
@@ -38,19 +40,24 @@ impl Outputs {
 }
 
 /// Whether a call answers as it must.
-fn calls<S: Shelf>(words: &[String], store: &mut S, outputs: &mut Outputs, want: Want<'_>) -> bool {
+pub fn calls<S: Shelf>(
+    words: &[String],
+    store: &mut S,
+    outputs: &mut Outputs,
+    want: Want<'_>,
+) -> bool {
     let (status, out, err) = want;
     let Outputs {
         alloc,
         out: output,
         err: errors,
     } = outputs;
-    top(*alloc, words, store, output, errors) == status
+    top(*alloc, words, store, output, errors, &NoChecks, &OpenGate) == status
         && output.taken() == out
         && errors.taken() == err
 }
 
-fn strings(alloc: Global, words: &[&str]) -> Result<Vec<String>, Fail> {
+pub fn strings(alloc: Global, words: &[&str]) -> Result<Vec<String>, Fail> {
     let mut list = Vec::new(alloc);
     for word in words {
         list.push(word.to_string(alloc)?)?;
@@ -59,7 +66,7 @@ fn strings(alloc: Global, words: &[&str]) -> Result<Vec<String>, Fail> {
 }
 
 /// A store with a file `p` of these bytes.
-fn stored(alloc: Global, program: &[u8]) -> Result<MemShelf, OutOfMemory> {
+pub fn stored(alloc: Global, program: &[u8]) -> Result<MemShelf, OutOfMemory> {
     let mut store = MemShelf::new(alloc, 0)?;
     store.hold("p", program)?;
     Ok(store)
@@ -78,7 +85,7 @@ fn answers_to(
 }
 
 /// Whether the words `run p`, where the file has these bytes, answer as they must.
-fn answers(alloc: Global, program: &[u8], want: Want<'_>) -> Result<bool, Fail> {
+pub fn answers(alloc: Global, program: &[u8], want: Want<'_>) -> Result<bool, Fail> {
     let words = strings(alloc, &["run", "p"])?;
     let mut outputs = Outputs::new(alloc, 4_194_304, 256)?;
     Ok(answers_to(&words, program, &mut outputs, want)?)
@@ -92,6 +99,7 @@ fn the_examples_have_their_reports(rt: HostRuntime) -> Result<(), Fail> {
         (TOTALS, TOTALS_REPORT),
         (KERNELS, KERNELS_REPORT),
         (SKIPPING, SKIPPING_REPORT),
+        (SCOPES, SCOPES_REPORT),
         (b"rhc 1".as_slice(), EMPTY_REPORT),
     ] {
         assert!(rt; answers(rt.alloc(), program, (0, report, b""))?);
@@ -135,7 +143,7 @@ const REFUSED_PROGRAMS: &[(&[u8], &[u8])] = &[
         b"rh: program line 2 reason 9 Limit\n",
     ),
     (
-        b"rhc 1\nfinish f\nend\n",
+        b"rhc 1\nmatrix m 1 1\nrow 0:1\nend\n",
         b"rh: program line 2 reason 19 NotBuilt\n",
     ),
     (
@@ -213,6 +221,15 @@ const BAD_WORDS: &[&[&str]] = &[
     &["run", "-p"],
     &["run", "--", "p"],
     &["run", "p", "q"],
+    &["run", "p", "--faults"],
+    &["run", "p", "--faults", ""],
+    &["run", "p", "--faults", "-p"],
+    &["run", "p", "--faults=p"],
+    &["run", "p", "--fault", "p"],
+    &["run", "--faults", "p", "p"],
+    &["--faults", "p", "run", "p"],
+    &["run", "p", "--faults", "p", "q"],
+    &["run", "p", "--faults", "p", "--faults", "p"],
     &["Run", "p"],
     &["runs", "p"],
     &["p", "run"],

@@ -1,32 +1,44 @@
-//! The text that a command writes, from the files that it reads.
+//! The texts that a command writes, from the files that it reads.
 
 ghost use Rattle.std.specs.Prelude.{◌≡◌, ◌≤◌, [], IfOk, MatchResult, length};
+ghost use Rattle.std.specs.Option.{option_map};
 ghost use Rattle.rh_words.specs.Refusals.{OnRefused};
 ghost use Rattle.rh_outside.specs.States.{KeepsFiles, KeepsCounts};
-ghost use Rattle.rh_plan.specs.Planned.{ArePlain};
-ghost use Rattle.rh_report.specs.Reports.{report_text};
-ghost use Rattle.rh_top.specs.CallSteps.{IsTextFor, StopsBy, refusal_of, PlansOr};
+ghost use Rattle.rh_plan.specs.Users.{AreChecksOf};
+ghost use Rattle.rh_top.specs.CallSteps.{AreTextsFor, AreTextsOfRun, StopsBy, refusal_of, PlansOr, FaultsOr, RunsOr};
 ghost use Rattle.rh_top.specs.FileCommand.{command_data};
-ghost use Rattle.rh_top.specs.Programs.{IsProgram, IsRefusedProgram};
+ghost use Rattle.rh_check.specs.Users.{handed_checks};
+ghost use Rattle.rh_top.specs.Programs.{IsProgram, IsRefusedProgram, AreFaultsIn, AreRefusedFaults};
 
 use crate::command::FileCommand;
-use rh_check::NoChecks;
-use rh_injector::Faults;
+use rh_check::Checks;
+use rh_injector::{Faults, read_faults};
 use rh_outside::{ReadAnswer, Shelf};
 use rh_plain::run_plain;
-use rh_plan::{Plan, plan};
-use rh_report::print_report;
-use rh_schemes::OpenGate;
+use rh_plan::{Plan, plan, resolve};
+use rh_report::{has_failed, print_report};
+use rh_schemes::Gate;
 use rh_task_text::read_program;
-use rh_words::limits::MAX_PROGRAM_BYTES;
+use rh_words::limits::{MAX_FAULT_BYTES, MAX_PROGRAM_BYTES};
 use rh_words::{Bytes, Fault, OutOfMemory, Reason, Refusal};
 use std::alloc::Global;
 
-/// Why a command came to no text.
+/// What a command writes.
+#[derive(Drop)]
+pub struct Texts {
+    /// The text for the output.
+    pub out: Bytes,
+    /// Whether a task failed.
+    pub failed: bool,
+}
+
+/// Why a command came to no texts.
 #[derive(Drop)]
 pub enum Stop {
     /// The program is over its limit, or has this first bad line.
     ProgramRefused(Refusal),
+    /// The fault file is over its limit, or has this first bad line.
+    FaultsRefused(Refusal),
     /// A file could not be read.
     ReadFailed,
     /// Memory was wanting.
@@ -44,33 +56,58 @@ impl From<OutOfMemory> for Stop {
     }
 }
 
-/// The text of a command, from the files that it reads. Changes no file.
-pub fn compose<S: Shelf>(
+/// The texts of a command. Reads the program and then its faults, and changes no file.
+pub fn compose<S: Shelf, C: Checks, G: Gate>(
     alloc: Global,
     command: &FileCommand<'_>,
     files: &mut S,
-) -> Result<Bytes, Stop>
+    checks: &C,
+    gate: &G,
+) -> Result<Texts, Stop>
     ensures files { KeepsFiles (S.state files.old) (S.state files.new) }
     ensures counts { KeepsCounts (S.state files.old) (S.state files.new) }
-    ensures text { MatchResult result
-        (IsTextFor (S.state files.old) (command_data command.now))
-        (StopsBy (S.state files.old) (S.state files.new) (command_data command.now)) }
+    ensures texts { MatchResult result
+        (AreTextsFor (handed_checks (C.names checks.now) (C.specs checks.now)) (S.state files.old) (command_data command.now))
+        (StopsBy (handed_checks (C.names checks.now) (C.specs checks.now)) (S.state files.old) (S.state files.new) (command_data command.now)) }
 {
-    let plan = load_plan(alloc, command.program(), files)?;
-    let text = report_plan(alloc, &plan)?;
-    Ok(text)
+    let plan = load_plan(alloc, command.program(), files, checks)?;
+    run_under(alloc, &plan, command.faults(), files, checks, gate)
+}
+
+/// The texts of a run of the plan under the faults in a file, or under none where no file is named.
+fn run_under<S: Shelf, C: Checks, G: Gate>(
+    alloc: Global,
+    plan: &Plan,
+    name: Option<&str>,
+    files: &mut S,
+    checks: &C,
+    gate: &G,
+) -> Result<Texts, Stop>
+    requires checks { AreChecksOf plan.now (C.specs checks.now) }
+    ensures files { KeepsFiles (S.state files.old) (S.state files.new) }
+    ensures counts { KeepsCounts (S.state files.old) (S.state files.new) }
+    ensures texts { RunsOr (S.state files.old) (S.state files.new) plan.now (option_map (λ f. f.now) name.entry) result }
+{
+    let faults = load_faults(alloc, plan, name, files)?;
+    let texts = report_run(alloc, plan, &faults, checks, gate)?;
+    Ok(texts)
 }
 
 /// The plan of the program in a file.
-fn load_plan<S: Shelf>(alloc: Global, name: &str, files: &mut S) -> Result<Plan, Stop>
+fn load_plan<S: Shelf, C: Checks>(
+    alloc: Global,
+    name: &str,
+    files: &mut S,
+    checks: &C,
+) -> Result<Plan, Stop>
     ensures files { KeepsFiles (S.state files.old) (S.state files.new) }
     ensures counts { KeepsCounts (S.state files.old) (S.state files.new) }
-    ensures plan { PlansOr (S.state files.old) (S.state files.new) name.now result }
-    ensures plain { IfOk result ArePlain }
+    ensures plan { PlansOr (handed_checks (C.names checks.now) (C.specs checks.now)) (S.state files.old) (S.state files.new) name.now result }
+    ensures checks { IfOk result (λ plan. AreChecksOf plan (C.specs checks.now)) }
 {
     let mut bytes = Bytes::new(alloc);
     match files.read(name, MAX_PROGRAM_BYTES, &mut bytes) {
-        ReadAnswer::Ok => match plan_text(alloc, bytes) {
+        ReadAnswer::Ok => match plan_text(alloc, bytes, checks) {
             Ok(plan) => Ok(plan),
             Err(Fault::Refused(refusal)) => Err(Stop::ProgramRefused(refusal)),
             Err(Fault::OutOfMemory) => Err(Stop::OutOfMemory),
@@ -88,24 +125,68 @@ const TOO_LONG: Refusal = Refusal {
 };
 
 /// The plan of a program text. The text is given up, since a run needs its plan alone.
-fn plan_text(alloc: Global, bytes: Bytes) -> Result<Plan, Fault<Refusal>>
+fn plan_text<C: Checks>(alloc: Global, bytes: Bytes, checks: &C) -> Result<Plan, Fault<Refusal>>
     requires { length bytes ≤ MAX_PROGRAM_BYTES }
-    ensures ok { IfOk result (IsProgram bytes) }
-    ensures plain { IfOk result ArePlain }
-    ensures refused { OnRefused result (λ refusal. IsRefusedProgram bytes (refusal_of refusal)) }
+    ensures ok { IfOk result (IsProgram (handed_checks (C.names checks.now) (C.specs checks.now)) bytes) }
+    ensures checks { IfOk result (λ plan. AreChecksOf plan (C.specs checks.now)) }
+    ensures refused { OnRefused result (λ refusal. IsRefusedProgram (handed_checks (C.names checks.now) (C.specs checks.now)) bytes (refusal_of refusal)) }
 {
     let text = read_program(alloc, bytes.as_slice())?;
-    plan(alloc, &text)
+    plan(alloc, &text, checks)
 }
 
-/// Runs the plan, and answers its report.
-fn report_plan(alloc: Global, plan: &Plan) -> Result<Bytes, OutOfMemory>
-    requires { ArePlain plan.now }
-    ensures { IfOk result (λ text. text ≡ report_text plan.now []) }
+/// The faults in a file, or none where no file is named.
+fn load_faults<S: Shelf>(
+    alloc: Global,
+    plan: &Plan,
+    name: Option<&str>,
+    files: &mut S,
+) -> Result<Faults, Stop>
+    ensures files { KeepsFiles (S.state files.old) (S.state files.new) }
+    ensures counts { KeepsCounts (S.state files.old) (S.state files.new) }
+    ensures faults { FaultsOr (S.state files.old) (S.state files.new) plan.now (option_map (λ f. f.now) name.entry) result }
 {
-    let faults = Faults::new(alloc);
-    let ran = run_plain(alloc, plan, &faults, &NoChecks, &OpenGate)?;
-    let mut text = Bytes::new(alloc);
-    print_report(alloc, plan, &faults, &ran, &mut text)?;
-    Ok(text)
+    let Some(name) = name else {
+        return Ok(Faults::new(alloc));
+    };
+    let mut bytes = Bytes::new(alloc);
+    match files.read(name, MAX_FAULT_BYTES, &mut bytes) {
+        ReadAnswer::Ok => match faults_in(alloc, bytes, plan) {
+            Ok(faults) => Ok(faults),
+            Err(Fault::Refused(refusal)) => Err(Stop::FaultsRefused(refusal)),
+            Err(Fault::OutOfMemory) => Err(Stop::OutOfMemory),
+        },
+        ReadAnswer::TooLong => Err(Stop::FaultsRefused(TOO_LONG)),
+        ReadAnswer::Failed => Err(Stop::ReadFailed),
+        ReadAnswer::OutOfMemory => Err(Stop::OutOfMemory),
+    }
+}
+
+/// The faults of a fault text in a plan.
+fn faults_in(alloc: Global, bytes: Bytes, plan: &Plan) -> Result<Faults, Fault<Refusal>>
+    requires { length bytes ≤ MAX_FAULT_BYTES }
+    ensures ok { IfOk result (AreFaultsIn plan.now bytes) }
+    ensures refused { OnRefused result (λ refusal. AreRefusedFaults plan.now bytes (refusal_of refusal)) }
+{
+    let text = read_faults(alloc, bytes.as_slice())?;
+    resolve(alloc, &text, plan)
+}
+
+/// Runs the plan under these faults, and answers its report.
+fn report_run<C: Checks, G: Gate>(
+    alloc: Global,
+    plan: &Plan,
+    faults: &Faults,
+    checks: &C,
+    gate: &G,
+) -> Result<Texts, OutOfMemory>
+    requires checks { AreChecksOf plan.now (C.specs checks.now) }
+    ensures { IfOk result (AreTextsOfRun plan.now faults.now) }
+{
+    let _known = plan.nodes();
+    let outcome = run_plain(alloc, plan, faults, checks, gate)?;
+    let mut out = Bytes::new(alloc);
+    print_report(alloc, plan, faults, &outcome, &mut out)?;
+    let failed = has_failed(alloc, plan, faults, &outcome)?;
+    Ok(Texts { out, failed })
 }

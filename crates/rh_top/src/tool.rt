@@ -4,30 +4,36 @@ ghost use Rattle.std.specs.Prelude.{◌≡◌, IfOk, codes, map};
 ghost use Rattle.std.specs.String.{string_bytes};
 ghost use Rattle.rh_top.specs.Answer.{refusal_line};
 ghost use Rattle.rh_top.specs.Promise.{KeepsPromise, Tells, Says, call_of, status_number};
-ghost use Rattle.rh_top.specs.CallSteps.{Delivers, IsToldOf, refusal_of};
+ghost use Rattle.rh_check.specs.Users.{handed_checks};
+ghost use Rattle.rh_top.specs.CallSteps.{Delivers, IsToldOf, IsToldRefusal, refusal_of};
 
 use crate::command::read_command;
 use crate::printing::print_labelled;
 use crate::status::Status;
-use crate::texts::{Stop, compose};
+use crate::texts::{Stop, Texts, compose};
+use rh_check::Checks;
 use rh_outside::{Shelf, Sink, WriteAnswer, write_all};
+use rh_schemes::Gate;
 use rh_words::{Bytes, OutOfMemory, Refusal};
 use std::alloc::Global;
 
-/// Does what the words say, and answers the exit status. The words are those after the program's name. The whole text is
-/// composed before its first byte is written on `out`.
-pub fn top<S: Shelf, O: Sink, E: Sink>(
+/// Does what the words say, and answers the exit status. The words are those after the program's name. Programs may name the
+/// checks that are handed in, and the gate is told of each attempt. The whole text is composed before its first byte is
+/// written on `out`.
+pub fn top<S: Shelf, O: Sink, E: Sink, C: Checks, G: Gate>(
     alloc: Global,
     words: &[String],
     shelf: &mut S,
     out: &mut O,
     err: &mut E,
+    checks: &C,
+    gate: &G,
 ) -> u8
-    ensures { KeepsPromise (call_of (map string_bytes words.now)
+    ensures { KeepsPromise (call_of (map string_bytes words.now) (handed_checks (C.names checks.now) (C.specs checks.now))
         (S.state shelf.old) (S.state shelf.new) (O.state out.old) (O.state out.new)
         (E.state err.old) (E.state err.new)) result }
 {
-    obey(alloc, words, shelf, out, err).number()
+    obey(alloc, words, shelf, out, err, checks, gate).number()
 }
 
 /// Tells that memory was wanting before the words could be read, and answers the exit status.
@@ -39,14 +45,16 @@ pub fn want_memory<E: Sink>(err: &mut E) -> u8
 }
 
 /// Does what the words say.
-fn obey<S: Shelf, O: Sink, E: Sink>(
+fn obey<S: Shelf, O: Sink, E: Sink, C: Checks, G: Gate>(
     alloc: Global,
     words: &[String],
     files: &mut S,
     out: &mut O,
     err: &mut E,
+    checks: &C,
+    gate: &G,
 ) -> Status
-    ensures { Tells (call_of (map string_bytes words.now)
+    ensures { Tells (call_of (map string_bytes words.now) (handed_checks (C.names checks.now) (C.specs checks.now))
         (S.state files.old) (S.state files.new) (O.state out.old) (O.state out.new)
         (E.state err.old) (E.state err.new)) result }
 {
@@ -54,41 +62,62 @@ fn obey<S: Shelf, O: Sink, E: Sink>(
         say(err, b"rh: bad words\n");
         return Status::BadWords;
     };
-    match compose(alloc, &command, files) {
-        Ok(text) => deliver(&text, out, err),
+    match compose(alloc, &command, files, checks, gate) {
+        Ok(texts) => deliver(&texts, out, err),
         Err(stop) => tell(alloc, stop, err),
     }
 }
 
 /// Writes the text on the output.
-fn deliver<O: Sink, E: Sink>(text: &Bytes, out: &mut O, err: &mut E) -> Status
-    ensures { Delivers text.now
+fn deliver<O: Sink, E: Sink>(texts: &Texts, out: &mut O, err: &mut E) -> Status
+    ensures { Delivers texts.now
         (O.state out.old) (O.state out.new) (E.state err.old) (E.state err.new) result }
 {
-    if write_all(out, text.as_slice()) == WriteAnswer::Failed {
+    if write_all(out, texts.out.as_slice()) == WriteAnswer::Failed {
         say(err, b"rh: out failed\n");
         return Status::OutputFailed;
+    }
+    if texts.failed {
+        return Status::TaskFailed;
     }
     Status::Done
 }
 
-/// Tells on `err` why there is no text.
+/// Tells on `err` why there are no texts.
 fn tell<E: Sink>(alloc: Global, stop: Stop, err: &mut E) -> Status
     ensures { IsToldOf (E.state err.old) (E.state err.new) stop result }
 {
     match stop {
-        Stop::ProgramRefused(refusal) => match print_refusal(alloc, "program", refusal) {
-            Ok(line) => {
-                say(err, line.as_slice());
-                Status::ProgramRefused
-            }
-            Err(OutOfMemory) => no_memory(err),
-        },
+        Stop::ProgramRefused(refusal) => {
+            tell_refusal(alloc, "program", refusal, Status::ProgramRefused, err)
+        }
+        Stop::FaultsRefused(refusal) => {
+            tell_refusal(alloc, "faults", refusal, Status::FaultsRefused, err)
+        }
         Stop::ReadFailed => {
             say(err, b"rh: shelf failed\n");
             Status::StoreFailed
         }
         Stop::OutOfMemory => no_memory(err),
+    }
+}
+
+/// Tells on `err` of a refused text, and answers its status.
+fn tell_refusal<E: Sink>(
+    alloc: Global,
+    which: &str,
+    refusal: Refusal,
+    status: Status,
+    err: &mut E,
+) -> Status
+    ensures { IsToldRefusal (E.state err.old) (E.state err.new) which.now (refusal_of refusal) status result }
+{
+    match print_refusal(alloc, which, refusal) {
+        Ok(line) => {
+            say(err, line.as_slice());
+            status
+        }
+        Err(OutOfMemory) => no_memory(err),
     }
 }
 
@@ -108,7 +137,7 @@ fn say<E: Sink>(err: &mut E, line: &[u8])
     let _ = write_all(err, line);
 }
 
-/// The line that tells of a refused text, which is a program.
+/// The line that tells of a refused text: `which` says what it is.
 #[tactic(auto, using(std::proofs::Common::append_assoc), unfolding(crate::specs::Answer::refusal_line))]
 fn print_refusal(alloc: Global, which: &str, refusal: Refusal) -> Result<Bytes, OutOfMemory>
     ensures { IfOk result (λ line. line ≡ refusal_line which.now (refusal_of refusal)) }

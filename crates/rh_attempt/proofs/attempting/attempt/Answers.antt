@@ -5,8 +5,8 @@ use Rattle.rh_attempt.proofs.Locals.{puts_read}
 use Rattle.rh_attempt.proofs.Attempts.{sound_here, attempted}
 use Rattle.rh_attempt.proofs.attempting.attempt.Goals as goal
 
-pub awaited_locals-requires-clause-apart : goal.awaited_locals-requires-clause-apart
-awaited_locals-requires-clause-apart g c = λ lifetimes outlives. read_apart c.args.faults.now c.in_attempt-strikes.result.now c.args.node c.args.k c.as_slice-in_order.ensures.lawful c.in_attempt-strikes.ensures
+pub awaited_locals-requires : goal.awaited_locals-requires
+awaited_locals-requires g c = record { apart = read_apart c.args.faults.now c.in_attempt-strikes.result.now c.args.node c.args.k c.as_slice-in_order.ensures.lawful c.in_attempt-strikes.ensures }
 
 pub make_locals-requires-clause-apart : goal.make_locals-requires-clause-apart
 make_locals-requires-clause-apart g c = read_apart c.args.faults.now c.in_attempt-strikes.result.now c.args.node c.args.k c.as_slice-in_order.ensures.lawful c.in_attempt-strikes.ensures

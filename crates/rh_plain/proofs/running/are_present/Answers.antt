@@ -1,4 +1,4 @@
-use Rattle.std.proofs.Common.{◌≡◌, ◌++◌, ◌<◌, [], ◌∷◌, List, Bool, ℕ, length, map, take, get_or, ap, sym, ◌∙◌, arith}
+use Rattle.std.proofs.Common.{◌++◌, ◌<◌, [], ◌∷◌, List, Bool, length, map, take, get_or, ap, sym, ◌∙◌, arith}
 use Rattle.std.proofs.lemmas.List.{take_more, take_more_set, map-append, length-set}
 use Rattle.rh_plain.specs.Values.{has_words}
 use Rattle.rh_plain.proofs.running.are_present.Goals as goal

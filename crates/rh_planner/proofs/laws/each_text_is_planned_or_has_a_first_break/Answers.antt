@@ -6,7 +6,7 @@ use Rattle.rh_planner.proofs.Breaking.{kept_or_broken}
 use Rattle.rh_planner.proofs.laws.each_text_is_planned_or_has_a_first_break.Goals as goal
 
 pub returns : goal.returns
-returns c = λ text. elim (kept_or_broken text) [
-  | inl kept ↦ inl (nodes_above look_above (upward text.items), promises_above (upward text.items), record { kept = kept; nodes = refl; promises = refl })
+returns c = λ handed text. elim (kept_or_broken handed text) [
+  | inl kept ↦ inl (nodes_above (look_above handed) (upward text.items), promises_above (upward text.items), record { kept = kept; nodes = refl; promises = refl })
   | inr break ↦ inr break
 ]

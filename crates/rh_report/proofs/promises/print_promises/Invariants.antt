@@ -4,4 +4,4 @@ use Rattle.rh_report.specs.PromiseLines.{promise_line}
 use Rattle.rh_report.proofs.promises.print_promises.Given as goal
 
 abbrev pub invariant-loop-promise : goal.invariant-loop-promise
-invariant-loop-promise l = l.into ≡ l.fn.into ++ flat_map (promise_line l.plan l.ran) (range_with_len 0 l.promise)
+invariant-loop-promise l = l.into ≡ l.fn.into ++ flat_map (promise_line l.plan l.told l.shown) (range_with_len 0 l.promise)

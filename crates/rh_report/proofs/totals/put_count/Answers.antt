@@ -8,6 +8,6 @@ loop-promise-preserved c =
     let small = bit_small c.is_put.result c.from-puts.result c.from-puts.ensures in
     let few = c.loop-promise.invariant.few in
     record {
-      counted = bit_more (is_put_at c.args.plan.now c.args.ran.now) c.loop-promise.promise c.loop-promise.puts c.is_put.result c.from-puts.result c.loop-promise.invariant.counted c.is_put.ensures c.from-puts.ensures;
+      counted = bit_more (is_put_at c.args.plan.now c.args.told.now) c.loop-promise.promise c.loop-promise.puts c.is_put.result c.from-puts.result c.loop-promise.invariant.counted c.is_put.ensures c.from-puts.ensures;
       few = omega (arith, small, few);
     }

@@ -5,6 +5,6 @@ use Rattle.rh_report.proofs.totals.put_count.Given as goal
 
 abbrev pub invariant-loop-promise : goal.invariant-loop-promise
 invariant-loop-promise l = record {
-  counted : l.puts ≡ count_by (is_put_at l.plan l.ran) (range_with_len 0 l.promise);
+  counted : l.puts ≡ count_by (is_put_at l.plan l.told) (range_with_len 0 l.promise);
   few : l.puts ≤ l.promise;
 }

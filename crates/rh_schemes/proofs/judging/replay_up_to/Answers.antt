@@ -11,7 +11,7 @@ returns-in-None g c =
     let inputs = g.I.Inputs.lists c.args.inputs.now in
     let passes = subst (λ (o : Option ℕ). IsFirstFailingAt plan c.args.node inputs c.in_ok-buffer.buffer o) c.in-None.is c.failing.ensures in
     IfOk-weaker c.accepted_after.result _ _
-    (λ r told. one_accepted plan c.args.faults.now c.args.node inputs c.args.limit c.loop-k.k c.in_ok-buffer.buffer c.loop-k.trials r c.requires.scheme c.loop-k-test.true c.in_ok-buffer.ensures passes c.loop-k.invariant told)
+    (λ r told. one_accepted plan c.args.faults.now c.args.node inputs c.args.limit c.loop-k.k c.in_ok-buffer.buffer c.loop-k.trials r c.requires.scheme c.loop-k-test.true c.in_ok-buffer.ensures.made passes c.loop-k.invariant told)
     c.accepted_after.ensures
 
 pub loop-k-preserved : goal.loop-k-preserved
@@ -19,7 +19,7 @@ loop-k-preserved g c =
     let plan = c.args.plan.now in
     let inputs = g.I.Inputs.lists c.args.inputs.now in
     let fails = subst (λ (o : Option ℕ). IsFirstFailingAt plan c.args.node inputs c.in_ok-buffer.buffer o) c.in-Some.is c.failing.ensures in
-    let done = one_refused plan c.args.faults.now c.args.node inputs c.args.limit c.loop-k.k c.in-Some.which c.in_ok-buffer.buffer c.loop-k.trials c.requires.scheme c.loop-k-test.true c.in_ok-buffer.ensures fails c.loop-k.invariant in
+    let done = one_refused plan c.args.faults.now c.args.node inputs c.args.limit c.loop-k.k c.in-Some.which c.in_ok-buffer.buffer c.loop-k.trials c.requires.scheme c.loop-k-test.true c.in_ok-buffer.ensures.made fails c.loop-k.invariant in
     subst (λ (l : List Trial). AreRefusedAt plan c.args.faults.now c.args.node inputs (c.loop-k.k + 1) l) (sym c.in_ok-push-in-Some.ensures.ok) done
 
 pub returns : goal.returns

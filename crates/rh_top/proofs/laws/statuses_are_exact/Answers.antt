@@ -1,4 +1,4 @@
-use Rattle.rh_top.proofs.Statuses.{two_is_bad, bad_is_two, answered, calm, unanswered}
+use Rattle.rh_top.proofs.Statuses.{two_is_bad, bad_is_two, told_by_number, answered, calm, unanswered}
 use Rattle.rh_top.proofs.laws.statuses_are_exact.Goals as goal
 
 pub returns-clause-bad_words : goal.returns-clause-bad_words
@@ -13,3 +13,6 @@ returns-clause-calm c = λ call n a promise has. calm call n a (answered call n 
 
 pub returns-clause-unanswered : goal.returns-clause-unanswered
 returns-clause-unanswered c = λ call n promise. unanswered call n promise.status promise.numbered promise.tells
+
+pub returns-clause-numbered : goal.returns-clause-numbered
+returns-clause-numbered c = λ call n status promise. told_by_number call n promise.status status promise.numbered promise.tells

@@ -1,8 +1,7 @@
 use Rattle.std.proofs.Common.{sym, ◌∙◌, ap, ◌==◌, ◌≡◌, List, ℕ, Option, Some, None, subst}
 use Rattle.std.specs.List.{position}
 use Rattle.rh_plan.specs.declared.made_put.MadePut.{MadePut}
-use Rattle.rh_plan.specs.Buffers.{BufferData, buffer_data}
-use Rattle.rh_attempt.specs.Replacing.{puts_with}
+use Rattle.rh_plan.specs.Buffers.{BufferData, buffer_data, puts_with}
 use Rattle.rh_attempt.proofs.Puts.{replaced, none_replaced}
 use Rattle.rh_attempt.proofs.buffer.Buffer.set_put.Goals as goal
 

@@ -6,14 +6,14 @@ use Rattle.rh_plan.proofs.plans.Plan.edges_in.Goals as goal
 
 pub group_of-requires : goal.group_of-requires
 group_of-requires c =
-    let plan = plan_data c.self.inside.nodes.items c.self.inside.promises.items c.self.inside.edges.items in
+    let plan = plan_data c.self.inside.nodes.items c.self.inside.promises.items c.self.inside.edges.items c.self.inside.matrices in
     let same : length plan.nodes ≡ length c.args.self.now.nodes = ap (λ (p : PlanData). length p.nodes) c.self.view_is in
     let within = c.requires in
     is_part (targets plan) (length plan.nodes) c.self.inside.tables.into c.args.node c.self.invariant.kept.into (omega arith)
 
 pub returns : goal.returns
 returns c =
-    let plan = plan_data c.self.inside.nodes.items c.self.inside.promises.items c.self.inside.edges.items in
+    let plan = plan_data c.self.inside.nodes.items c.self.inside.promises.items c.self.inside.edges.items c.self.inside.matrices in
     let same : length plan.nodes ≡ length c.args.self.now.nodes = ap (λ (p : PlanData). length p.nodes) c.self.view_is in
     let within = c.requires in
     c.group_of.ensures

@@ -14,12 +14,12 @@ level_there plan now kept node same is within =
 
 pub bounds-levels-node : goal.bounds-levels-node
 bounds-levels-node c =
-    let plan = plan_data c.self.inside.nodes.items c.self.inside.promises.items c.self.inside.edges.items in
+    let plan = plan_data c.self.inside.nodes.items c.self.inside.promises.items c.self.inside.edges.items c.self.inside.matrices in
     level_there plan c.args.self.now c.as_slice-levels.result.now c.args.node c.self.view_is (c.as_slice-levels.ensures.value ∙ c.self.invariant.kept.levels) c.requires
 
 pub returns : goal.returns
 returns c =
-    let plan = plan_data c.self.inside.nodes.items c.self.inside.promises.items c.self.inside.edges.items in
+    let plan = plan_data c.self.inside.nodes.items c.self.inside.promises.items c.self.inside.edges.items c.self.inside.matrices in
     let kept = c.as_slice-levels.result.now in
     let is = c.as_slice-levels.ensures.value ∙ c.self.invariant.kept.levels in
     sym (ap (λ (p : PlanData). slice_get (levels p (length p.nodes)) c.args.node) c.self.view_is)

@@ -2,6 +2,7 @@ use Rattle.std.proofs.Common.{◌≡◌, ◌<◌, ◌^◌, ◌∙◌, ℕ, List,
 use Rattle.std.specs.List.{AllByRecursion}
 use Rattle.rh_rules.specs.declared.node.Node.{Node}
 use Rattle.rh_rules.specs.declared.node.PlannedPromise.{PlannedPromise}
+use Rattle.rh_rules.specs.Bodies.{shapes_of}
 use Rattle.rh_plan.specs.declared.edge.Edge.{Edge}
 use Rattle.rh_plan.specs.Lawful.{IsForward}
 use Rattle.rh_plan.specs.Plans.{edges_from}
@@ -16,7 +17,7 @@ edges_read ps qs ns ms edges made promises nodes = made ∙ ap (λ (l : List Pla
 pub tables_of-requires-clause-few : goal.tables_of-requires-clause-few
 tables_of-requires-clause-few c =
     let made = edges_read c.args.promises.items c.deref.result.now c.args.nodes.items c.deref-2.result.now c.in_ok-edges.edges.items c.in_ok-edges.ensures c.deref.ensures.value c.deref-2.ensures.value in
-    let few = edges_few c.args.nodes.items c.args.promises.items c.requires in
+    let few = edges_few (shapes_of c.args.matrices) c.args.nodes.items c.args.promises.items c.requires in
     let long : length c.deref-4.result.now ≡ length (edges_from c.args.promises.items 0 c.args.nodes.items) = ap length (c.deref-4.ensures.value ∙ made) in
     omega arith
 
@@ -24,7 +25,7 @@ pub tables_of-requires-clause-forward : goal.tables_of-requires-clause-forward
 tables_of-requires-clause-forward c =
     let made = edges_read c.args.promises.items c.deref.result.now c.args.nodes.items c.deref-2.result.now c.in_ok-edges.edges.items c.in_ok-edges.ensures c.deref.ensures.value c.deref-2.ensures.value in
     let P = λ (l : List Edge). AllByRecursion (IsForward (length c.args.nodes.items)) l in
-    let forward = subst P (sym (c.deref-4.ensures.value ∙ made)) (edges_rise c.args.nodes.items c.args.promises.items c.requires) in
+    let forward = subst P (sym (c.deref-4.ensures.value ∙ made)) (edges_rise (shapes_of c.args.matrices) c.args.nodes.items c.args.promises.items c.requires) in
     let Q = λ (n : ℕ). AllByRecursion (IsForward n) c.deref-4.result.now in
     subst Q (sym (ap length c.as_slice-count.ensures.value)) forward
 
@@ -34,8 +35,8 @@ invariant_of-result c =
     let ns = c.args.nodes.items in
     let es = c.in_ok-edges.edges.items in
     let made = edges_read ps c.deref.result.now ns c.deref-2.result.now es c.in_ok-edges.ensures c.deref.ensures.value c.deref-2.ensures.value in
-    let forward : AllByRecursion (IsForward (length ns)) es = subst (λ (l : List Edge). AllByRecursion (IsForward (length ns)) l) (sym made) (edges_rise ns ps c.requires) in
-    let few : length es < 2 ^ 32 = subst (λ (l : List Edge). length l < 2 ^ 32) (sym made) (edges_few ns ps c.requires) in
+    let forward : AllByRecursion (IsForward (length ns)) es = subst (λ (l : List Edge). AllByRecursion (IsForward (length ns)) l) (sym made) (edges_rise (shapes_of c.args.matrices) ns ps c.requires) in
+    let few : length es < 2 ^ 32 = subst (λ (l : List Edge). length l < 2 ^ 32) (sym made) (edges_few (shapes_of c.args.matrices) ns ps c.requires) in
     let by_promises : AreTables ps c.deref-4.result.now (length c.as_slice-count.result.now) c.in_ok-tables.tables = subst (λ (l : List PlannedPromise). AreTables l c.deref-4.result.now (length c.as_slice-count.result.now) c.in_ok-tables.tables) c.deref-3.ensures.value c.in_ok-tables.ensures in
     let by_edges : AreTables ps es (length c.as_slice-count.result.now) c.in_ok-tables.tables = subst (λ (l : List Edge). AreTables ps l (length c.as_slice-count.result.now) c.in_ok-tables.tables) c.deref-4.ensures.value by_promises in
     record {

@@ -1,4 +1,4 @@
-use Rattle.std.proofs.Common.{◌≡◌, ◌<◌, ◌∙◌, List, ℕ, sym, ap, refl, rules, Some, None, subst, length, get_or, Option, false, true}
+use Rattle.std.proofs.Common.{◌≡◌, ◌<◌, ◌∙◌, List, ℕ, sym, ap, refl, rules, Some, subst, length, get_or, Option, false, true}
 use Rattle.std.specs.Prelude.{◌++◌, ◌∷◌, [], map, is_some, option_and_then, slice_get, slice_index, unwrap_or}
 use Rattle.std.proofs.lemmas.Option.{slice_get_read}
 use Rattle.rh_rules.specs.declared.node.PlannedPromise.{PlannedPromise}
@@ -19,7 +19,7 @@ found : (ps qs : List PlannedPromise) (q : List ℕ) (i : ℕ) (o : Option ℕ) 
 found ps qs q i o p at within same is = ap (λ (x : Option ℕ). option_and_then (λ k. slice_get ps k) x) at ∙ slice_get_read ps (length ps) i p refl within (is ∙ ap (λ (l : List PlannedPromise). get_or l i p) same)
 
 pub returns-in_default : goal.returns-in_default
-returns-in_default c = judges_refused _ _ _ _ (reason_unknown look_above (facts_of c.args.self.now) c.args.statement.now c.args.promise.now c.requires.puts (sym c.in_default.ensures.number))
+returns-in_default c = judges_refused _ _ _ _ refl (reason_unknown (look_above c.args.self.now.handed) (facts_of c.args.self.now) c.args.statement.now c.args.promise.now c.requires.puts (sym c.in_default.ensures.number))
 
 pub returns-in-Some-2 : goal.returns-in-Some-2
 returns-in-Some-2 c =
@@ -27,7 +27,7 @@ returns-in-Some-2 c =
     let q = c.args.promise.now in
     let there : is_promise ps q ≡ true = ap is_some (sym c.in-Some.ensures.number) in
     let named : promise_named ps q ≡ Some c.index-promises-number.result = found ps c.promises.result.now q c.in-Some.number _ c.index-promises-number.result (sym c.in-Some.ensures.number) c.in-Some.ensures.within c.promises.ensures c.index-promises-number.is in
-    judges_refused _ _ _ c.in-Some-2.reason (reason_put look_above (facts_of c.args.self.now) c.args.statement.now c.args.promise.now c.index-promises-number.result c.requires.puts there named ∙ sym c.in_ok-reason.ensures.reason ∙ c.in-Some-2.is)
+    judges_refused _ _ _ c.in-Some-2.reason refl (reason_put (look_above c.args.self.now.handed) (facts_of c.args.self.now) c.args.statement.now c.args.promise.now c.index-promises-number.result c.requires.puts there named ∙ sym c.in_ok-reason.ensures.reason ∙ c.in-Some-2.is)
 
 pub returns : goal.returns
 returns c =
@@ -43,8 +43,8 @@ returns c =
     let number : c.in-Some.number ≡ promise_number ps q = ap (λ (o : Option ℕ). unwrap_or o 0) c.in-Some.ensures.number in
     let step : c.put_step.result ≡ put_step ps used q = c.put_step.ensures ∙ ap (λ (l : List ℕ). Put c.in-Some.number (slice_index l 0) (slice_get l 1)) (c.deref.ensures.value ∙ numbers) ∙ ap (λ (i : ℕ). Put i (slice_index used 0) (slice_get used 1)) number in
     record {
-      reason = sym (reason_put look_above (facts_of c.args.self.now) c.args.statement.now q c.index-promises-number.result c.requires.puts there named ∙ sym c.in_ok-reason.ensures.reason ∙ c.in_default-2.is);
-      tables = λ none. subst (HasFacts _) (sym (after_put look_above (facts_of c.args.self.now) c.args.statement.now q c.requires.puts)) (record {
+      reason = sym (reason_put (look_above c.args.self.now.handed) (facts_of c.args.self.now) c.args.statement.now q c.index-promises-number.result c.requires.puts there named ∙ sym c.in_ok-reason.ensures.reason ∙ c.in_default-2.is);
+      tables = λ none. subst (HasFacts _) (sym (after_put (look_above c.args.self.now.handed) (facts_of c.args.self.now) c.args.statement.now q c.requires.puts)) (record {
         names = ap (λ (t : Declarations). t.names) declared;
         promises = ap (λ (t : Declarations). t.promises) declared ∙ ap (λ (n : ℕ). map (given (putting q n)) ps) len;
         blocks = refl;
@@ -54,6 +54,8 @@ returns c =
         locals = ap (λ v. v.items) c.in_ok-reason.ensures.locals;
         drops = ap (λ v. v.items) c.in_ok-reason.ensures.drops;
         steps = c.in_ok-push.ensures.ok ∙ ap (λ (b : List Step). b ++ c.put_step.result ∷ []) c.in_ok-reason.ensures.body ∙ ap (λ (s : Step). c.args.self.now.task.body ++ s ∷ []) step;
-        scheme = refl;
+        scheme = c.in_ok-reason.ensures.scheme;
+        checks = c.in_ok-reason.ensures.checks;
       });
+      handed = refl;
     }

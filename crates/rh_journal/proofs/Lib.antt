@@ -1,0 +1,11 @@
+pub mod Examples
+pub mod Counts
+pub mod Owned
+pub mod Freeing
+pub mod Whole
+pub mod OneThread
+pub mod Distinct
+pub mod Referring
+pub mod References
+pub mod Told
+pub mod ShownPlaces

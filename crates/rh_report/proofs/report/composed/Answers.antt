@@ -1,0 +1,7 @@
+use Rattle.rh_report.proofs.Gathered.{reported}
+use Rattle.rh_report.proofs.report.composed.Goals as goal
+
+pub returns : goal.returns
+returns c =
+    reported c.args.plan.now c.args.faults.now c.args.outcome.now.journal c.entries.result.now c.args.outcome.now.shown c.in_ok-told.told c.new-text.result c.print_all.new.into
+    c.nodes-known.ensures.lawful c.requires c.entries.ensures c.in_ok-told.ensures c.new-text.ensures c.in_ok-print_all.ensures

@@ -1,0 +1,311 @@
+//! Replicated and replayed tasks under injected faults, through calls of the program. What each must write was worked out by hand.
+
+use crate::examples::{
+    EQUAL_FAULTS, EQUAL_FAULTS_REPORT, EQUAL_FAULTS_TEXT, HEAT, HEAT_FAULTS, HEAT_REPORT,
+    OVER_BUDGET, OVER_BUDGET_FAULTS, OVER_BUDGET_REPORT, PASSING_FAULTS, PASSING_FAULTS_REPORT,
+    PASSING_FAULTS_TEXT, REPLAYED, REPLAYED_FAULTS, REPLAYED_REPORT, REPLICATED, REPLICATED_FAULTS,
+    REPLICATED_REPORT, SKIPPED_FAULT, SKIPPED_FAULT_REPORT, SKIPPED_FAULT_TEXT,
+};
+use crate::fault_tests::{answers_under, runs_under, stored_with};
+use crate::tests::{Want, answers};
+use std::alloc::Global;
+use std::test::Fail;
+
+#[test]
+fn the_examples_under_faults_have_their_reports(rt: HostRuntime) -> Result<(), Fail> {
+    for (program, faults, status, report) in [
+        (REPLICATED, REPLICATED_FAULTS, 0u8, REPLICATED_REPORT),
+        (REPLAYED, REPLAYED_FAULTS, 0, REPLAYED_REPORT),
+        (OVER_BUDGET, OVER_BUDGET_FAULTS, 1, OVER_BUDGET_REPORT),
+        (HEAT, HEAT_FAULTS, 0, HEAT_REPORT),
+        (EQUAL_FAULTS, EQUAL_FAULTS_TEXT, 0, EQUAL_FAULTS_REPORT),
+        (
+            PASSING_FAULTS,
+            PASSING_FAULTS_TEXT,
+            0,
+            PASSING_FAULTS_REPORT,
+        ),
+        (SKIPPED_FAULT, SKIPPED_FAULT_TEXT, 0, SKIPPED_FAULT_REPORT),
+    ] {
+        assert!(rt; answers_under(rt.alloc(), program, faults, (status, report, b""))?);
+    }
+    Ok(())
+}
+
+/// A replicated task.
+const TWO_REPLICAS: &[u8] = b"rhc 1
+promise x 2
+task a replicate
+let v lit 5 6
+put x v
+end
+";
+
+const TWO_REPLICAS_REPORT: &[u8] = b"rhr 1
+task a accepted 0
+  attempt 0 accepted
+  attempt 1 agreed
+promise x by a attempt 0: 5 6
+total tasks 1 accepted 1 failed 0 skipped 0 puts 1 faults 0 of 0
+";
+
+/// A replicated task whose put hangs on a local.
+const MAYBE_PUT: &[u8] = b"rhc 1
+promise x 1
+task a replicate
+let c lit 1
+let v lit 7
+put x v when c
+end
+";
+
+/// A replicated task, and two that await what it puts, one behind the other.
+const CHAIN_OF_THREE: &[u8] = b"rhc 1
+promise x 2
+promise y 2
+promise z 2
+task a replicate
+let v lit 5 6
+put x v
+end
+task b plain await x
+put y x
+end
+task c plain await y x
+put z y
+end
+";
+
+/// A replayed task, whose put must sum to 30.
+const THREE_TRIES: &[u8] = b"rhc 1
+promise x 2
+task a replay 3
+let v lit 10 20
+put x v
+check total x 30
+end
+";
+
+/// Programs under faults, the status, and what `out` takes.
+const SCHEMES_UNDER_FAULTS: &[(&[u8], &[u8], u8, &[u8])] = &[
+    (
+        TWO_REPLICAS,
+        b"rhf 1\nfault a 1 v 0 4\n",
+        0,
+        b"rhr 1
+task a accepted 0
+  attempt 0 accepted
+  attempt 1 differed
+  attempt 2 agreed
+promise x by a attempt 0: 5 6
+total tasks 1 accepted 1 failed 0 skipped 0 puts 1 faults 1 of 1
+",
+    ),
+    (
+        MAYBE_PUT,
+        b"rhf 1\nfault a 0 c 0 1\n",
+        0,
+        b"rhr 1
+task a accepted 1
+  attempt 0 differed
+  attempt 1 accepted
+  attempt 2 agreed
+promise x by a attempt 1: 7
+total tasks 1 accepted 1 failed 0 skipped 0 puts 1 faults 1 of 1
+",
+    ),
+    (
+        TWO_REPLICAS,
+        b"rhf 1\nfault a 0 v 0 4\nfault a 1 v 0 4\n",
+        0,
+        b"rhr 1
+task a accepted 0
+  attempt 0 accepted
+  attempt 1 agreed
+promise x by a attempt 0: 1 6
+total tasks 1 accepted 1 failed 0 skipped 0 puts 1 faults 2 of 2
+",
+    ),
+    (
+        CHAIN_OF_THREE,
+        b"rhf 1\nfault a 0 v 0 1\nfault a 1 v 0 2\n",
+        1,
+        b"rhr 1
+task a failed
+  attempt 0 differed
+  attempt 1 differed
+  attempt 2 differed
+task b skipped by x
+task c skipped by y
+promise x by a void
+promise y by b void
+promise z by c void
+total tasks 3 accepted 0 failed 1 skipped 2 puts 0 faults 2 of 2
+",
+    ),
+    (
+        THREE_TRIES,
+        b"rhf 1\nfault a 0 v 0 1\nfault a 1 v 1 8\n",
+        0,
+        b"rhr 1
+task a accepted 2
+  attempt 0 refused 0
+  attempt 1 refused 0
+  attempt 2 accepted
+promise x by a attempt 2: 10 20
+total tasks 1 accepted 1 failed 0 skipped 0 puts 1 faults 2 of 2
+",
+    ),
+    (
+        THREE_TRIES,
+        b"rhf 1\nfault a 0 v 0 1\nfault a 1 v 1 8\nfault a 2 v 0 2\n",
+        1,
+        b"rhr 1
+task a failed
+  attempt 0 refused 0
+  attempt 1 refused 0
+  attempt 2 refused 0
+promise x by a void
+total tasks 1 accepted 0 failed 1 skipped 0 puts 0 faults 3 of 3
+",
+    ),
+    (
+        THREE_TRIES,
+        b"rhf 1\nfault a 2 v 0 2\n",
+        0,
+        b"rhr 1
+task a accepted 0
+  attempt 0 accepted
+promise x by a attempt 0: 10 20
+total tasks 1 accepted 1 failed 0 skipped 0 puts 1 faults 0 of 1
+",
+    ),
+];
+
+#[test]
+fn schemes_save_what_they_can(rt: HostRuntime) -> Result<(), Fail> {
+    for (program, faults, status, report) in SCHEMES_UNDER_FAULTS {
+        assert!(rt; answers_under(rt.alloc(), program, faults, (*status, report, b""))?);
+    }
+    Ok(())
+}
+
+/// What a replayed task writes that is accepted at once.
+const ONE_TRY_REPORT: &[u8] = b"rhr 1
+task a accepted 0
+  attempt 0 accepted
+promise x by a attempt 0: 10 20
+total tasks 1 accepted 1 failed 0 skipped 0 puts 1 faults 0 of 0
+";
+
+/// A scope in which a task is accepted, one fails and one is skipped, and a group that stays closed.
+const COUNTED_SCOPE: &[u8] = b"rhc 1
+promise x 1
+promise y 1
+promise z 3
+promise g 1
+finish f
+task a plain
+end
+task b replay 1
+let v lit 3
+put x v
+check range x 4 9
+end
+task c plain await x
+put y x
+end
+end
+task d plain await f
+put z f
+end
+group h await x
+task e plain
+let v lit 1
+put g v
+end
+end
+";
+
+const COUNTED_SCOPE_REPORT: &[u8] = b"rhr 1
+task a accepted 0
+  attempt 0 accepted
+task b failed
+  attempt 0 refused 0
+task c skipped by x
+finish f 1 1 1
+task d accepted 0
+  attempt 0 accepted
+group h closed by x
+task e skipped by h
+promise x by b void
+promise y by c void
+promise z by d attempt 0: 1 1 1
+promise g by e void
+total tasks 5 accepted 2 failed 1 skipped 2 puts 1 faults 0 of 0
+";
+
+/// Programs without faults: a scope that counts, replicated, and replayed at most once, eight times, and more often than may be.
+const SCHEMES_WITHOUT_FAULTS: &[(&[u8], Want<'static>)] = &[
+    (COUNTED_SCOPE, (1, COUNTED_SCOPE_REPORT, b"")),
+    (TWO_REPLICAS, (0, TWO_REPLICAS_REPORT, b"")),
+    (
+        b"rhc 1\npromise x 2\ntask a replay 1\nlet v lit 10 20\nput x v\ncheck total x 30\nend\n",
+        (0, ONE_TRY_REPORT, b""),
+    ),
+    (
+        b"rhc 1\npromise x 2\ntask a replay 8\nlet v lit 10 20\nput x v\ncheck total x 30\nend\n",
+        (0, ONE_TRY_REPORT, b""),
+    ),
+    (
+        b"rhc 1\npromise x 2\ntask a replay 9\nlet v lit 10 20\nput x v\ncheck total x 30\nend\n",
+        (3, b"", b"rh: program line 3 reason 15 Scheme\n"),
+    ),
+];
+
+#[test]
+fn schemes_run_without_faults(rt: HostRuntime) -> Result<(), Fail> {
+    for (program, want) in SCHEMES_WITHOUT_FAULTS {
+        assert!(rt; answers(rt.alloc(), program, *want)?);
+    }
+    Ok(())
+}
+
+/// Faults that are refused under the replicated task, and what `err` takes.
+const REFUSED_UNDER_REPLICAS: &[(&[u8], &[u8])] = &[
+    (
+        b"rhf 1\nfault a 0 v 0 0\n",
+        b"rh: faults line 2 reason 24 ZeroMask\n",
+    ),
+    (
+        b"rhf 1\nfault a 0 v 0 4\nfault a 0 v 0 4\n",
+        b"rh: faults line 3 reason 25 Twice\n",
+    ),
+    (
+        b"rhf 1\nfault a 2 v 0 4\nfault a 3 v 0 4\n",
+        b"rh: faults line 3 reason 21 Attempt\n",
+    ),
+];
+
+#[test]
+fn replicas_have_three_attempts_at_most(rt: HostRuntime) -> Result<(), Fail> {
+    for (faults, message) in REFUSED_UNDER_REPLICAS {
+        assert!(rt; answers_under(rt.alloc(), TWO_REPLICAS, faults, (4, b"", message))?);
+    }
+    Ok(())
+}
+
+/// Whether a run in which a task fails, with so much room on the output, answers as it must.
+fn fails_into(alloc: Global, room: usize, want: Want<'_>) -> Result<bool, Fail> {
+    let mut store = stored_with(alloc, OVER_BUDGET, OVER_BUDGET_FAULTS)?;
+    runs_under(alloc, &mut store, room, want)
+}
+
+/// A failed task is told by the status only where the whole report was written.
+#[test]
+fn a_failed_task_has_a_status(rt: HostRuntime) -> Result<(), Fail> {
+    let alloc = rt.alloc();
+    assert!(rt; fails_into(alloc, 4096, (1, OVER_BUDGET_REPORT, b""))?);
+    assert!(rt; fails_into(alloc, 12, (6, b"rhr 1\ntask a", b"rh: out failed\n"))?);
+    Ok(())
+}

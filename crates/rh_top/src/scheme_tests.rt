@@ -86,6 +86,34 @@ check total x 30
 end
 ";
 
+/// A check reads the awaited promise itself, and not the attempt's copy.
+const CHECKED_BY_ITS_INPUT: &[u8] = b"rhc 1
+promise x 1
+promise y 1
+task a plain
+let v lit 7
+put x v
+end
+task b replay 2 await x
+let w add x x
+put y w
+check linear y 0 x 2
+end
+";
+
+/// A copy of an awaited promise is put as it is.
+const PUT_AS_AWAITED: &[u8] = b"rhc 1
+promise x 1
+promise y 1
+task a plain
+let v lit 7
+put x v
+end
+task b replicate await x
+put y x
+end
+";
+
 /// Programs under faults, the status, and what `out` takes.
 const SCHEMES_UNDER_FAULTS: &[(&[u8], &[u8], u8, &[u8])] = &[
     (
@@ -178,6 +206,37 @@ task a accepted 0
   attempt 0 accepted
 promise x by a attempt 0: 10 20
 total tasks 1 accepted 1 failed 0 skipped 0 puts 1 faults 0 of 1
+",
+    ),
+    (
+        CHECKED_BY_ITS_INPUT,
+        b"rhf 1\nfault b 0 x 0 1\n",
+        0,
+        b"rhr 1
+task a accepted 0
+  attempt 0 accepted
+task b accepted 1
+  attempt 0 refused 0
+  attempt 1 accepted
+promise x by a attempt 0: 7
+promise y by b attempt 1: 14
+total tasks 2 accepted 2 failed 0 skipped 0 puts 2 faults 1 of 1
+",
+    ),
+    (
+        PUT_AS_AWAITED,
+        b"rhf 1\nfault b 0 x 0 1\n",
+        0,
+        b"rhr 1
+task a accepted 0
+  attempt 0 accepted
+task b accepted 1
+  attempt 0 differed
+  attempt 1 accepted
+  attempt 2 agreed
+promise x by a attempt 0: 7
+promise y by b attempt 1: 7
+total tasks 2 accepted 2 failed 0 skipped 0 puts 2 faults 1 of 1
 ",
     ),
 ];

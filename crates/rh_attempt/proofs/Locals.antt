@@ -9,7 +9,8 @@ use Rattle.rh_injector.specs.declared.faults.Strike.{Strike}
 use Rattle.rh_rules.specs.declared.body.Step.{Step}
 use Rattle.rh_rules.specs.declared.body.Step.TheVariants.{Lit, Gen, Add, Sub, Mul, Scale, Shift, Cut, Join, Sum, Count, Stencil1, Stencil2, Product, Put, DropAwait}
 use Rattle.rh_attempt.specs.Attempting.{ReadsLocals}
-use Rattle.rh_rules.specs.Bodies.{Shape, AreSoundSteps, IsSoundStep, IsSoundWhen, let_len, lens_after, lens_after_all, with_len}
+use Rattle.rh_rules.specs.declared.shape.Shape.{Shape}
+use Rattle.rh_rules.specs.Bodies.{AreSoundSteps, IsSoundStep, IsSoundWhen, let_len, lens_after, lens_after_all, with_len}
 use Rattle.rh_plan.specs.Plans.{PlanData, shapes_in}
 use Rattle.rh_rules.specs.Lawful.{promise_lens}
 use Rattle.rh_plan.specs.Faulted.{faulted}

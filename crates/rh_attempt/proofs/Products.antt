@@ -6,7 +6,8 @@ use Rattle.std.specs.List.{slice_get}
 use Rattle.std.specs.Option.{IsSomeAnd}
 use Rattle.rh_sparse.specs.Matrix.{MatrixData}
 use Rattle.rh_sparse.specs.Product.{product_value}
-use Rattle.rh_rules.specs.Bodies.{Shape, shapes_of}
+use Rattle.rh_rules.specs.declared.shape.Shape.{Shape}
+use Rattle.rh_rules.specs.Bodies.{shapes_of}
 use Rattle.rh_plan.specs.Buffers.{local_at, product_if_held}
 
 pub matrix_there : (matrices held : List MatrixData) (matrix : ℕ) (P : Shape → Type 0) → held ≡ matrices → IsSomeAnd (slice_get (shapes_of matrices) matrix) P → matrix < length held

@@ -3,7 +3,7 @@ use Rattle.std.specs.Prelude.{ℕ, ◌≡◌, ◌<◌, ◌==◌, ◌||◌, List,
 use Rattle.std.specs.List.{list_any}
 use Rattle.rh_injector.specs.declared.faults.Strike.{Strike}
 use Rattle.rh_rules.specs.declared.body.Step.{Step}
-use Rattle.rh_rules.specs.declared.body.Step.TheVariants.{Put}
+use Rattle.rh_rules.specs.declared.body.Step.TheVariants.{Lit, Gen, Add, Sub, Mul, Scale, Shift, Cut, Join, Sum, Count, Stencil1, Stencil2, Product, Put, DropAwait}
 use Rattle.rh_rules.specs.declared.node.Node.{Node}
 use Rattle.rh_plan.specs.Plans.{PlanData}
 use Rattle.rh_rules.specs.Bodies.{IsSoundWhen, drop_at}
@@ -37,6 +37,25 @@ is_read steps local = list_any (reads_local local) steps
 pub record AreAsBefore (steps : List Step) (before after : List (List ℕ)) : Type 0 where
   pub count : length after ≡ length before
   pub read : (i : ℕ) → is_read steps i ≡ true → local_at after i ≡ local_at before i
+
+-- the step is a `let` that makes its words of several locals
+abbrev pub combines : Step → Bool
+combines (Lit words) = false
+combines (Gen n start limit) = false
+combines (Add a b) = true
+combines (Sub a b) = true
+combines (Mul a b) = true
+combines (Scale a k) = false
+combines (Shift a s) = false
+combines (Cut a from len) = false
+combines (Join parts) = true
+combines (Sum a) = false
+combines (Count a) = false
+combines (Stencil1 l m r k s) = true
+combines (Stencil2 north south west east m cols k s) = true
+combines (Product matrix v) = false
+combines (Put promise local when) = false
+combines (DropAwait promise) = false
 
 -- the buffer after one more step
 abbrev pub with_step : BufferData → List (List ℕ) → Step → BufferData

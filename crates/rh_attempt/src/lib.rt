@@ -5,6 +5,7 @@
 mod attempting;
 mod buffer;
 mod faulting;
+mod lets;
 mod local;
 mod making;
 mod putting;

@@ -7,8 +7,8 @@ ghost use Rattle.rh_plan.specs.Buffers.{buffer_data, is_made, local_at, puts_of}
 ghost use Rattle.rh_attempt.specs.Attempting.{ReadsLocals, is_read, reads_local, with_step, AreAsBefore};
 
 use crate::buffer::Buffer;
+use crate::lets::words_at;
 use crate::local::Local;
-use crate::making::words_at;
 use rh_plan::MadePut;
 use rh_rules::Step;
 use rh_words::{OutOfMemory, Words};

@@ -155,7 +155,7 @@ fn reads_and_prints(alloc: Global, text: &[u8], printed: &[u8]) -> bool {
         return false;
     };
     let mut into = Bytes::new(alloc);
-    names(first, 4, b"a", 7, b"v", 15, 256)
+    names(first, 4, b"a", 7, b"v", 15, 0xabc)
         && names(second, 6, b"t_1", 0, b"x", 0, 1)
         && print_faults(alloc, &read, &mut into).is_ok()
         && into.as_slice() == printed
@@ -163,7 +163,7 @@ fn reads_and_prints(alloc: Global, text: &[u8], printed: &[u8]) -> bool {
 
 #[test]
 fn a_text_is_read_and_printed(rt: HostRuntime) {
-    let text = b"rhf 1\n\n# two\n fault  a 007 v 0xF 0x0100\n#\nfault t_1 0 x 0 1\n";
-    let printed = b"rhf 1\nfault a 7 v 15 0x100\nfault t_1 0 x 0 0x1\n";
+    let text = b"rhf 1\n\n# two\n fault  a 007 v 0xF 0x0ABC\n#\nfault t_1 0 x 0 1\n";
+    let printed = b"rhf 1\nfault a 7 v 15 0xabc\nfault t_1 0 x 0 0x1\n";
     assert!(rt; reads_and_prints(rt.alloc(), text, printed));
 }

@@ -69,8 +69,8 @@ all_fewer P xs ys few all = each xs (λ q some1. all_often P ys q all (let a = f
 -- a lawful node's body puts no more than the node may put
 body_few : (plan : PlanData) (node : Node) (k : Kind) → IsLawfulKind (shapes_in plan) plan.promises node k → (q : ℕ) → often q (promises_put node.body) ≤ often q node.puts
 body_few plan node Task lawful q = let a = ap (often q) lawful.puts in omega arith
-body_few plan node Group lawful q = let a = ap (λ b. often q (promises_put b)) lawful.0 in omega arith
-body_few plan node Scope lawful q = let a = ap (λ b. often q (promises_put b)) lawful.body in omega arith
+body_few plan node Group lawful q = let a = ap (λ b. often q (promises_put b)) lawful.bodiless.body in omega arith
+body_few plan node Scope lawful q = let a = ap (λ b. often q (promises_put b)) lawful.bodiless.body in omega arith
 
 promises_few : (node : Node) (o : Option BufferData) (q : ℕ) → often q (promises_put node.body) ≤ often q node.puts → ((b : BufferData) → o ≡ Some b → FollowsSteps node.body b) → often q (promises_of o) ≤ often q node.puts
 promises_few node None q few follow = omega arith
@@ -142,8 +142,8 @@ among_all P awaits (q ∷ drops) all among = (one awaits all among.0, among_all 
 
 drops_known : (plan : PlanData) (P : ℕ → Type 0) (node : Node) (k : Kind) → IsLawfulKind (shapes_in plan) plan.promises node k → AllByRecursion P node.awaits → AllByRecursion P (drops_of node.body)
 drops_known plan P node Task lawful all = among_all P node.awaits (drops_of node.body) all lawful.dropped
-drops_known plan P node Group lawful all = subst (λ b. AllByRecursion P (drops_of b)) (sym lawful.0) tt
-drops_known plan P node Scope lawful all = subst (λ b. AllByRecursion P (drops_of b)) (sym lawful.body) tt
+drops_known plan P node Group lawful all = subst (λ b. AllByRecursion P (drops_of b)) (sym lawful.bodiless.body) tt
+drops_known plan P node Scope lawful all = subst (λ b. AllByRecursion P (drops_of b)) (sym lawful.bodiless.body) tt
 
 -- a node gives up references of promises of the plan alone
 pub released_known : (run : Run) → IsLawfulPlan run.plan → (v : ℕ) (node : Node) → slice_get run.plan.nodes v ≡ Some node → (has : ℕ → Bool) → AllByRecursion (λ q. q < length run.plan.promises) (released_by has node (row run v node))

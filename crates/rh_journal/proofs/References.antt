@@ -8,7 +8,7 @@ use Rattle.rh_rules.specs.declared.node.Node.{Node}
 use Rattle.rh_rules.specs.declared.node.Kind.{Kind}
 use Rattle.rh_rules.specs.declared.node.Kind.TheVariants.{Task, Group, Scope}
 use Rattle.rh_rules.specs.declared.node.PlannedPromise.{PlannedPromise}
-use Rattle.rh_rules.specs.Bodies.{Shape}
+use Rattle.rh_rules.specs.declared.shape.Shape.{Shape}
 use Rattle.rh_rules.specs.Lawful.{putter_of, IsLawfulKind}
 use Rattle.rh_rules.specs.Tables.{is_in}
 use Rattle.rh_plan.specs.declared.edge.Edge.{Edge}

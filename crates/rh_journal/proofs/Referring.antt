@@ -93,10 +93,10 @@ unfolding IsDistinct
 drops_lawful plan node None k lawful follow = (tt, tt)
 drops_lawful plan node (Some b) Task lawful follow = (subst (IsDistinct nat_eq) (sym (follow b refl).drops) lawful.drops_once, subst (AllByRecursion (IsAmong node.awaits)) (sym (follow b refl).drops) lawful.dropped)
 drops_lawful plan node (Some b) Group lawful follow =
-    let none : b.drops ≡ [] = (follow b refl).drops ∙ ap (λ s. drops_of s) lawful.0 in
+    let none : b.drops ≡ [] = (follow b refl).drops ∙ ap (λ s. drops_of s) lawful.bodiless.body in
     (subst (IsDistinct nat_eq) (sym none) tt, subst (AllByRecursion (IsAmong node.awaits)) (sym none) tt)
 drops_lawful plan node (Some b) Scope lawful follow =
-    let none : b.drops ≡ [] = (follow b refl).drops ∙ ap (λ s. drops_of s) lawful.body in
+    let none : b.drops ≡ [] = (follow b refl).drops ∙ ap (λ s. drops_of s) lawful.bodiless.body in
     (subst (IsDistinct nat_eq) (sym none) tt, subst (AllByRecursion (IsAmong node.awaits)) (sym none) tt)
 
 -- whether the node is the putter, as a number

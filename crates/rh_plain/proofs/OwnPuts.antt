@@ -61,8 +61,8 @@ all_put P ys puts few all = each puts (λ q some1. all_often P ys q all (let a =
 -- the body of a lawful node puts no promise more often than the node may
 body_few : (plan : PlanData) (node : Node) (k : Kind) → IsLawfulKind (shapes_in plan) plan.promises node k → (q : ℕ) → often q (promises_put node.body) ≤ often q node.puts
 body_few plan node Task lawful q = let a = ap (often q) lawful.puts in omega arith
-body_few plan node Group lawful q = let a = ap (λ b. often q (promises_put b)) lawful.0 in omega arith
-body_few plan node Scope lawful q = let a = ap (λ b. often q (promises_put b)) lawful.body in omega arith
+body_few plan node Group lawful q = let a = ap (λ b. often q (promises_put b)) lawful.bodiless.body in omega arith
+body_few plan node Scope lawful q = let a = ap (λ b. often q (promises_put b)) lawful.bodiless.body in omega arith
 
 abbrev pub AreOwn : PlanData → ℕ → List MadePut → Type 0
 AreOwn plan v puts = AllByRecursion (λ p. putter_of plan.promises p.promise ≡ Some v) puts

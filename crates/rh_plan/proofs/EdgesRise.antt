@@ -9,7 +9,7 @@ use Rattle.rh_rules.specs.declared.node.Kind.{Kind}
 use Rattle.rh_rules.specs.declared.node.Kind.TheVariants.{Task, Group, Scope}
 use Rattle.rh_rules.specs.declared.node.Node.{Node}
 use Rattle.rh_rules.specs.declared.node.PlannedPromise.{PlannedPromise}
-use Rattle.rh_rules.specs.Bodies.{Shape}
+use Rattle.rh_rules.specs.declared.shape.Shape.{Shape}
 use Rattle.rh_rules.specs.Lawful.{AreLawful, IsLawfulNode, IsLawfulKind, IsEnclosedBelow, putter_of}
 use Rattle.rh_plan.specs.Plans.{await_edge, order_edge, start_edges, edges_into_kind, edges_into, edges_from}
 use Rattle.rh_plan.specs.Lawful.{IsForward}

@@ -1,11 +1,20 @@
 -- Small plans worked out: the results of the definitions, computed.
 use Rattle.std.proofs.Common.{◌≡◌, ℕ, zero, suc, ◌<◌, List, [], ◌∷◌, Option, Some, None, false, true, map, slice_index, unwrap_or, nat_eq, refl, arith, sym, subst, ap, inl, inr}
+use Rattle.std.specs.Prelude.{codes}
 use Rattle.std.proofs.lemmas.Bool.{false≢true}
 use Rattle.std.proofs.lemmas.Option.{same_Some}
 use Rattle.rh_plan.specs.Budgets.{IsWithinBudget, KeepsBudget, ReplaysWithin, attempts_named, fault_free_inputs, fault_free_buffer}
 use Rattle.rh_injector.specs.Faults.{names_attempt}
 use Rattle.rh_plan.specs.Attempts.{attempt_of}
 use Rattle.rh_injector.specs.declared.faults.Strike.{Strike}
+use Rattle.rh_task_text.specs.declared.statement.Item.{Item}
+use Rattle.rh_task_text.specs.declared.statement.Statement.{Statement}
+use Rattle.rh_task_text.specs.declared.statement.Statement.TheVariants as text
+use Rattle.rh_task_text.specs.declared.statement.SchemeText.TheVariants as schemes
+use Rattle.rh_task_text.specs.Program.{ProgramText, version_text}
+use Rattle.rh_check.specs.Users.{none_handed}
+use Rattle.rh_rules.specs.Facets.{facets}
+use Rattle.rh_plan.specs.Planned.{IsPlanOf}
 use Rattle.rh_rules.specs.declared.body.Step.{Step}
 use Rattle.rh_rules.specs.declared.body.Step.TheVariants.{Lit, Add, Sum, Product as ProductStep, Put, DropAwait}
 use Rattle.rh_rules.specs.declared.node.Node.{Node}
@@ -227,10 +236,44 @@ small_matrix = record { cols = 2; rows = (cell 0 2 ∷ []) ∷ (cell 0 1 ∷ cel
 abbrev check_on : ℕ → Spec → KeptCheck
 check_on promise spec = record { promise = promise; spec = spec; user = None }
 
+abbrev named_promise : List ℕ → ℕ → ℕ → PlannedPromise
+named_promise name len v = record (promise len (Some v)) { name = name }
+
+abbrev named_task : List ℕ → List (List ℕ) → Node → Node
+named_task name made node = record node { name = name; lets = made }
+
 abbrev product_plan : List KeptCheck → PlanData
-product_plan checks = record (plan_of (promise 2 (Some 0) ∷ promise 2 (Some 1) ∷ [])
-    (task Plain None [] (0 ∷ []) (Lit (5 ∷ 7 ∷ []) ∷ Put 0 0 None ∷ []) []
-    ∷ task Abft None (0 ∷ []) (1 ∷ []) (ProductStep 0 0 ∷ Put 1 1 None ∷ []) (check_on 1 (Product 0 0) ∷ checks) ∷ [])) { matrices = small_matrix ∷ [] }
+product_plan checks = record (plan_of (named_promise (codes "x") 2 0 ∷ named_promise (codes "y") 2 1 ∷ [])
+    (named_task (codes "init") (codes "v" ∷ []) (task Plain None [] (0 ∷ []) (Lit (5 ∷ 7 ∷ []) ∷ Put 0 0 None ∷ []) [])
+    ∷ named_task (codes "mul") (codes "w" ∷ []) (task Abft None (0 ∷ []) (1 ∷ []) (ProductStep 0 0 ∷ Put 1 1 None ∷ []) (check_on 1 (Product 0 0) ∷ checks)) ∷ [])) { matrices = small_matrix ∷ [] }
+
+-- it is the plan of this text
+abbrev item : ℕ → Statement → Item
+item line s = record { line = line; statement = s }
+
+abbrev product_text : ProgramText
+product_text = version_text 1 (item 2 (text.Promise (codes "x") 2 false)
+    ∷ item 3 (text.Promise (codes "y") 2 false)
+    ∷ item 4 (text.Matrix (codes "a") 2 2)
+    ∷ item 5 (text.Row (0 ∷ []) (2 ∷ []))
+    ∷ item 6 (text.Row (0 ∷ 1 ∷ []) (1 ∷ 3 ∷ []))
+    ∷ item 7 text.End
+    ∷ item 8 (text.Task (codes "init") schemes.Plain [])
+    ∷ item 9 (text.LetLit (codes "v") (5 ∷ 7 ∷ []))
+    ∷ item 10 (text.Put (codes "x") (codes "v") None)
+    ∷ item 11 text.End
+    ∷ item 12 (text.Task (codes "mul") schemes.Abft (codes "x" ∷ []))
+    ∷ item 13 (text.LetProduct (codes "w") (codes "a") (codes "x"))
+    ∷ item 14 (text.Put (codes "y") (codes "w") None)
+    ∷ item 15 (text.CheckProduct (codes "y") (codes "a") (codes "x"))
+    ∷ item 16 text.End ∷ [])
+
+product_planned : IsPlanOf none_handed product_text (product_plan [])
+unfolding facets
+product_planned = record {
+  draft = record { kept = (refl, (refl, (refl, (refl, (refl, (refl, (refl, (refl, (refl, (refl, (refl, (refl, (refl, (refl, (refl, tt))))))))))))))); nodes = refl; promises = refl; matrices = refl };
+  whole = refl;
+}
 
 -- the second word of the product is altered by 1: it is restored
 abbrev in_product : List Strike

@@ -15,7 +15,7 @@ use Rattle.rh_rules.specs.declared.node.Kind.{Kind}
 use Rattle.rh_rules.specs.declared.node.Kind.TheVariants.{Task, Group, Scope}
 use Rattle.rh_rules.specs.declared.node.Node.{Node}
 use Rattle.rh_rules.specs.declared.node.PlannedPromise.{PlannedPromise}
-use Rattle.rh_rules.specs.Bodies.{Shape}
+use Rattle.rh_rules.specs.declared.shape.Shape.{Shape}
 use Rattle.rh_rules.specs.Lawful.{local_lens, IsLawfulKind, IsLawfulTask}
 use Rattle.rh_rules.specs.Tables.{if_any}
 use Rattle.rh_plan.specs.Plans.{PlanData, shapes_in}

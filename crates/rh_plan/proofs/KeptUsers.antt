@@ -4,6 +4,7 @@ use Rattle.std.specs.Prelude.{option_to_list}
 use Rattle.std.specs.List.{AllByRecursion}
 use Rattle.rh_check.specs.declared.spec.Spec.{Spec}
 use Rattle.rh_check.specs.Users.{HandedChecks, user_named}
+use Rattle.rh_sparse.specs.Matrix.{MatrixData}
 use Rattle.rh_task_text.specs.declared.statement.Statement.{Statement}
 use Rattle.rh_task_text.specs.declared.statement.Statement.TheVariants as text
 use Rattle.rh_task_text.specs.Program.{ProgramText, upward}
@@ -14,7 +15,7 @@ use Rattle.rh_rules.specs.Tables.{promise_number}
 use Rattle.rh_rules.specs.Facets.{Turn, Opens, Closes, Stays, facets}
 use Rattle.rh_rules.specs.declared.block.OpenBlock.{OpenBlock}
 use Rattle.rh_rules.specs.declared.block.OpenBlock.TheVariants.{TaskBlock, MatrixBlock, GroupBlock, ScopeBlock}
-use Rattle.rh_rules.specs.Above.{Look, Facts, checks_above, checks_by, check_of, spec_asked, promises_above, locals_above, nodes_above, nodes_by, ended_node, facts_with}
+use Rattle.rh_rules.specs.Above.{Look, Facts, checks_above, checks_by, check_of, spec_asked, promises_above, matrices_above, locals_above, nodes_above, nodes_by, ended_node, facts_with}
 use Rattle.rh_planner.specs.Planned.{look_above, IsDraftOf}
 use Rattle.rh_planner.proofs.SoundTasks.{all_append}
 use Rattle.rh_planner.proofs.DeclaredPromises.{all_at}
@@ -37,11 +38,11 @@ kept_checks : (look : Look) (above : List Statement) → AreKept look (checks_ab
 kept_checks look [] = tt
 kept_checks look (s ∷ above) = by_turn (kept_checks look above) (facets s).turn
   where
-    by_turn : AreKept look (checks_above look above) → (t : Turn) → AreKept look (elim t [ Opens ↦ [] | Closes ↦ [] | Stays ↦ checks_above look above ++ checks_by look (promises_above above) (locals_above look above) s ])
+    by_turn : AreKept look (checks_above look above) → (t : Turn) → AreKept look (elim t [ Opens ↦ [] | Closes ↦ [] | Stays ↦ checks_above look above ++ checks_by look (promises_above above) (matrices_above above) (locals_above look above) s ])
     by_turn kept Opens = tt
     by_turn kept Closes = tt
-    by_turn kept Stays = all_append (IsKept look) (checks_above look above) (checks_by look (promises_above above) (locals_above look above) s) kept
-        (kept_line look (promise_number (promises_above above)) (spec_asked look.handed (locals_above look above) s) (facets s).checked)
+    by_turn kept Stays = all_append (IsKept look) (checks_above look above) (checks_by look (promises_above above) (matrices_above above) (locals_above look above) s) kept
+        (kept_line look (promise_number (promises_above above)) (spec_asked look.handed (matrices_above above) (locals_above look above) s) (facets s).checked)
 
 kept_end : (look : Look) (f : Facts) (blocks : List OpenBlock) → AreKept look f.checks → AllByRecursion (λ (node : Node). AreKept look node.checks) (ended_node f blocks)
 kept_end look f [] kept = tt
@@ -65,5 +66,5 @@ planned_users handed text plan is v node at =
     all_at (λ (n : Node). AreKept (look_above handed) n.checks) plan.nodes v node
     (subst (AllByRecursion (λ (n : Node). AreKept (look_above handed) n.checks)) (sym is.draft.nodes) (kept_nodes (look_above handed) (upward text.items))) at
 
-pub plan_is : (handed : HandedChecks) (text : ProgramText) (ns : List Node) (ps : List PlannedPromise) (plan : PlanData) → plan ≡ plan_data ns ps (edges_from ps 0 ns) [] → IsDraftOf handed text ns ps → IsPlanOf handed text plan
-plan_is handed text ns ps plan is draft = subst (IsPlanOf handed text) (sym is) (record { draft = draft; whole = refl })
+pub plan_is : (handed : HandedChecks) (text : ProgramText) (ns : List Node) (ps : List PlannedPromise) (ms : List MatrixData) (plan : PlanData) → plan ≡ plan_data ns ps (edges_from ps 0 ns) ms → IsDraftOf handed text ns ps ms → IsPlanOf handed text plan
+plan_is handed text ns ps ms plan is draft = subst (IsPlanOf handed text) (sym is) (record { draft = draft; whole = refl })

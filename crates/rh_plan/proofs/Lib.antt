@@ -23,6 +23,8 @@ pub mod Followed
 pub mod Tried
 pub mod PlannedTexts
 pub mod SaidParts
+pub mod SaidNames
+pub mod SaidForms
 pub mod SaidPlans
 pub mod FaultPlaces
 pub mod LocalLens
@@ -32,3 +34,4 @@ pub mod ResolvedFaults
 pub mod NamedPlaces
 pub mod OneResolution
 pub mod KeptUsers
+pub mod LawfulPlans

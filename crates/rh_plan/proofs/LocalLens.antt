@@ -11,7 +11,8 @@ use Rattle.rh_rules.specs.declared.body.Step.{Step}
 use Rattle.rh_rules.specs.declared.body.Step.TheVariants.{Lit, Gen, Add, Sub, Mul, Scale, Shift, Cut, Join, Sum, Count, Stencil1, Stencil2, Product, Put, DropAwait}
 use Rattle.rh_rules.specs.declared.node.PlannedPromise.{PlannedPromise}
 use Rattle.rh_sparse.specs.Matrix.{MatrixData}
-use Rattle.rh_rules.specs.Bodies.{Shape, shapes_of, rows_at, AreSoundSteps, IsSoundStep, lens_after, lens_after_all}
+use Rattle.rh_rules.specs.declared.shape.Shape.{Shape}
+use Rattle.rh_rules.specs.Bodies.{shapes_of, rows_at, AreSoundSteps, IsSoundStep, lens_after, lens_after_all}
 use Rattle.rh_rules.specs.declared.node.Node.{Node}
 use Rattle.rh_rules.specs.Lawful.{names_at}
 use Rattle.rh_planner.proofs.FirstPlaces.{place_or, first_place, next_place, position-first, position_map}

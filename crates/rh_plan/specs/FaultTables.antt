@@ -14,7 +14,8 @@ use Rattle.rh_rules.specs.declared.body.Step.{Step}
 use Rattle.rh_rules.specs.declared.body.Step.TheVariants.{Join}
 use Rattle.rh_rules.specs.declared.node.Node.{Node}
 use Rattle.rh_rules.specs.declared.node.PlannedPromise.{PlannedPromise}
-use Rattle.rh_rules.specs.Bodies.{Shape, lens_at}
+use Rattle.rh_rules.specs.declared.shape.Shape.{Shape}
+use Rattle.rh_rules.specs.Bodies.{lens_at}
 use Rattle.rh_rules.specs.Lawful.{local_lens}
 use Rattle.rh_rules.specs.Tables.{if_any}
 use Rattle.rh_planner.specs.Declarations.{key_cmp}

@@ -5,7 +5,8 @@ use Rattle.rh_rules.specs.declared.node.Kind.TheVariants.{Task, Group, Scope}
 use Rattle.rh_rules.specs.declared.node.Node.{Node}
 use Rattle.rh_rules.specs.declared.node.PlannedPromise.{PlannedPromise}
 use Rattle.rh_sparse.specs.Matrix.{MatrixData}
-use Rattle.rh_rules.specs.Bodies.{Shape, shapes_of}
+use Rattle.rh_rules.specs.declared.shape.Shape.{Shape}
+use Rattle.rh_rules.specs.Bodies.{shapes_of}
 use Rattle.rh_rules.specs.Lawful.{putter_of}
 use Rattle.rh_plan.specs.declared.edge.Edge.{Edge}
 

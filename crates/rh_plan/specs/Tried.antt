@@ -6,7 +6,7 @@ use Rattle.rh_plan.specs.Plans.{PlanData}
 use Rattle.rh_plan.specs.Lawful.{IsLawfulPlan}
 use Rattle.rh_plan.specs.Results.{results, result_of_node}
 
--- No node has more than 9 trials.
+-- No node has more than 8 trials.
 abbrev pub FewTrials : Type 0
 FewTrials = (plan : PlanData) → IsLawfulPlan plan → (faults : List Strike) (v : ℕ) (node : Node) → slice_get plan.nodes v ≡ Some node
-    → length (result_of_node plan faults (results plan faults v) v node).trials ≤ 9
+    → length (result_of_node plan faults (results plan faults v) v node).trials ≤ 8

@@ -1,8 +1,10 @@
-//! The plans of two texts with scopes and groups, worked out by hand.
+//! The plans of texts with scopes, groups and matrices, worked out by hand.
 
 use crate::tests::planned;
 use crate::{Cause, Plan};
-use rh_rules::Kind;
+use rh_check::Spec;
+use rh_rules::{Kind, Scheme, Step};
+use rh_sparse::{Cell, Matrix};
 use std::test::Fail;
 
 /// A node as a row: its name and kind, what it awaits, its members, what it puts, and its group.
@@ -154,9 +156,7 @@ fn is_edge(plan: &Plan, at: u32, row: &(u32, u32, Option<u32>)) -> bool {
     (edge.from, edge.to, edge.promise) == *row
 }
 
-#[test]
-fn a_scope_and_a_group_are_these_nodes(rt: HostRuntime) -> Result<(), Fail> {
-    let plan = planned(rt.alloc(), SCOPE_AND_GROUP).ok_or("no plan")?;
+fn has_scope_and_group(plan: &Plan) -> bool {
     let nodes: [NodeRow; 7] = [
         (b"a", Kind::Task, &[], &[], &[], None),
         (b"b", Kind::Task, &[], &[], &[0], None),
@@ -166,13 +166,17 @@ fn a_scope_and_a_group_are_these_nodes(rt: HostRuntime) -> Result<(), Fail> {
         (b"h", Kind::Group, &[0], &[], &[], None),
         (b"e", Kind::Task, &[], &[], &[3], Some(5)),
     ];
-    assert!(rt; are_nodes(&plan, &nodes));
-    Ok(())
+    are_nodes(plan, &nodes)
 }
 
 #[test]
-fn a_scope_and_a_group_have_these_edges(rt: HostRuntime) -> Result<(), Fail> {
+fn a_scope_and_a_group_are_these_nodes(rt: HostRuntime) -> Result<(), Fail> {
     let plan = planned(rt.alloc(), SCOPE_AND_GROUP).ok_or("no plan")?;
+    assert!(rt; has_scope_and_group(&plan));
+    Ok(())
+}
+
+fn has_scope_and_group_edges(plan: &Plan) -> bool {
     let edges = [
         (1, 2, Some(0)),
         (0, 3, None),
@@ -191,14 +195,18 @@ fn a_scope_and_a_group_have_these_edges(rt: HostRuntime) -> Result<(), Fail> {
         (1, 4, &[5], &[6]),
         (2, 6, &[6], &[]),
     ];
-    assert!(rt; are_edges(&plan, &edges) && are_linked(&plan, &links));
+    are_edges(plan, &edges) && are_linked(plan, &links)
+}
+
+#[test]
+fn a_scope_and_a_group_have_these_edges(rt: HostRuntime) -> Result<(), Fail> {
+    let plan = planned(rt.alloc(), SCOPE_AND_GROUP).ok_or("no plan")?;
+    assert!(rt; has_scope_and_group_edges(&plan));
     Ok(())
 }
 
 /// The scope's own promise stands behind the four that are declared above its line.
-#[test]
-fn a_scope_and_a_group_have_these_promises(rt: HostRuntime) -> Result<(), Fail> {
-    let plan = planned(rt.alloc(), SCOPE_AND_GROUP).ok_or("no plan")?;
+fn has_scope_and_group_promises(plan: &Plan) -> bool {
     let promises: [PromiseRow; 5] = [
         (b"x", 1, Some(1), true, 4),
         (b"y", 1, Some(2), true, 2),
@@ -206,13 +214,17 @@ fn a_scope_and_a_group_have_these_promises(rt: HostRuntime) -> Result<(), Fail> 
         (b"g", 1, Some(6), true, 2),
         (b"f", 3, Some(3), false, 2),
     ];
-    assert!(rt; are_promises(&plan, &promises));
-    Ok(())
+    are_promises(plan, &promises)
 }
 
 #[test]
-fn nested_blocks_are_these_nodes(rt: HostRuntime) -> Result<(), Fail> {
-    let plan = planned(rt.alloc(), NESTED).ok_or("no plan")?;
+fn a_scope_and_a_group_have_these_promises(rt: HostRuntime) -> Result<(), Fail> {
+    let plan = planned(rt.alloc(), SCOPE_AND_GROUP).ok_or("no plan")?;
+    assert!(rt; has_scope_and_group_promises(&plan));
+    Ok(())
+}
+
+fn has_nested_nodes(plan: &Plan) -> bool {
     let nodes: [NodeRow; 8] = [
         (b"measure", Kind::Task, &[], &[], &[0, 1], None),
         (b"react", Kind::Group, &[1], &[], &[], None),
@@ -223,14 +235,18 @@ fn nested_blocks_are_these_nodes(rt: HostRuntime) -> Result<(), Fail> {
         (b"after", Kind::Task, &[4], &[], &[], Some(1)),
         (b"all", Kind::Scope, &[], &[0, 1, 2, 3, 4, 5, 6], &[3], None),
     ];
-    assert!(rt; are_nodes(&plan, &nodes));
+    are_nodes(plan, &nodes)
+}
+
+#[test]
+fn nested_blocks_are_these_nodes(rt: HostRuntime) -> Result<(), Fail> {
+    let plan = planned(rt.alloc(), NESTED).ok_or("no plan")?;
+    assert!(rt; has_nested_nodes(&plan));
     Ok(())
 }
 
 /// The edge from a group comes after those of the awaits, and those into a scope come from its members.
-#[test]
-fn nested_blocks_have_these_edges(rt: HostRuntime) -> Result<(), Fail> {
-    let plan = planned(rt.alloc(), NESTED).ok_or("no plan")?;
+fn has_nested_edges(plan: &Plan) -> bool {
     let edges = [
         (0, 1, Some(1)),
         (0, 2, Some(0)),
@@ -251,13 +267,17 @@ fn nested_blocks_have_these_edges(rt: HostRuntime) -> Result<(), Fail> {
         (5, 7, None),
         (6, 7, None),
     ];
-    assert!(rt; are_edges(&plan, &edges));
-    Ok(())
+    are_edges(plan, &edges)
 }
 
 #[test]
-fn nested_blocks_are_linked_so(rt: HostRuntime) -> Result<(), Fail> {
+fn nested_blocks_have_these_edges(rt: HostRuntime) -> Result<(), Fail> {
     let plan = planned(rt.alloc(), NESTED).ok_or("no plan")?;
+    assert!(rt; has_nested_edges(&plan));
+    Ok(())
+}
+
+fn has_nested_links(plan: &Plan) -> bool {
     let links: [LinkRow; 8] = [
         (0, 9, &[], &[0, 1, 3, 11]),
         (1, 4, &[0], &[2, 4, 10, 12]),
@@ -275,20 +295,128 @@ fn nested_blocks_are_linked_so(rt: HostRuntime) -> Result<(), Fail> {
         (b"all", 3, Some(7), false, 1),
         (b"inner", 3, Some(5), false, 2),
     ];
-    assert!(rt; are_linked(&plan, &links) && are_promises(&plan, &promises));
+    are_linked(plan, &links) && are_promises(plan, &promises)
+}
+
+#[test]
+fn nested_blocks_are_linked_so(rt: HostRuntime) -> Result<(), Fail> {
+    let plan = planned(rt.alloc(), NESTED).ok_or("no plan")?;
+    assert!(rt; has_nested_links(&plan));
     Ok(())
 }
 
 /// Of a group that did not open the innermost is blamed, before every promise that is not there.
-#[test]
-fn the_innermost_group_is_blamed(rt: HostRuntime) -> Result<(), Fail> {
-    let plan = planned(rt.alloc(), NESTED).ok_or("no plan")?;
-    let is_blamed = plan.nodes() == 8
+fn blames_the_innermost_group(plan: &Plan) -> bool {
+    plan.nodes() == 8
         && plan.blame(2, false, &[false]) == Some(Cause::Group(1))
         && plan.blame(3, false, &[true]) == Some(Cause::Group(1))
         && plan.blame(3, true, &[false]) == Some(Cause::Promise(0))
         && plan.blame(4, false, &[]) == Some(Cause::Group(3))
-        && plan.blame(4, true, &[]).is_none();
-    assert!(rt; is_blamed);
+        && plan.blame(4, true, &[]).is_none()
+}
+
+#[test]
+fn the_innermost_group_is_blamed(rt: HostRuntime) -> Result<(), Fail> {
+    let plan = planned(rt.alloc(), NESTED).ok_or("no plan")?;
+    assert!(rt; blames_the_innermost_group(&plan));
+    Ok(())
+}
+
+/// Two matrices, the second in a scope, and two tasks whose products are corrected.
+const PRODUCTS: &[u8] = b"rhc 1
+promise x 2
+promise y 3
+promise z 2
+matrix a 3 2
+row 0:2
+row 0:1 1:3
+row 1:4
+end
+task init plain
+let v lit 5 7
+put x v
+end
+task mul abft await x
+let w product a x
+put y w
+check product y a x
+check range y 0 50
+end
+finish f
+matrix b 2 3
+row 0:1 2:1
+row 1:6
+end
+task sums abft await x y
+let s product b y
+put z s
+check product z b y
+end
+end
+";
+
+fn is_row(row: &[Cell], cells: &[(u32, u32)]) -> bool {
+    let mut same = row.len() == cells.len();
+    for (cell, (col, value)) in row.iter().zip(cells) {
+        same = same && cell.col == *col && cell.value == *value;
+    }
+    same
+}
+
+fn are_rows(matrix: &Matrix, rows: &[&[(u32, u32)]]) -> bool {
+    let mut same = matrix.rows() as usize == rows.len();
+    for at in 0..matrix.rows() {
+        let Some(cells) = rows.get(at as usize) else {
+            return false;
+        };
+        same = same && is_row(matrix.row(at), cells);
+    }
+    same
+}
+
+fn has_matrices(plan: &Plan) -> bool {
+    let matrices = plan.matrices();
+    if matrices.rows_at(0) != 3 || matrices.rows_at(1) != 2 || matrices.rows_at(2) != 0 {
+        return false;
+    }
+    let (a, b) = (matrices.get(0), matrices.get(1));
+    a.cols() == 2
+        && are_rows(a, &[&[(0, 2)], &[(0, 1), (1, 3)], &[(1, 4)]])
+        && b.cols() == 3
+        && are_rows(b, &[&[(0, 1), (2, 1)], &[(1, 6)]])
+}
+
+/// Whether a node is a task with correction whose first step is the product of this matrix and this local, and whose first check
+/// is that of this product on the promise.
+fn is_corrected(plan: &Plan, node: u32, product: (u32, u32), promise: u32, checks: usize) -> bool {
+    if node >= plan.nodes() {
+        return false;
+    }
+    let (Some(check), Some(Step::Product { matrix, v })) = (
+        plan.checks_of(node).first(),
+        plan.body(node).steps().first(),
+    ) else {
+        return false;
+    };
+    let Spec::Product { matrix: checked, x } = check.spec else {
+        return false;
+    };
+    matches!(plan.scheme(node), Scheme::Abft)
+        && plan.attempts(node) == 1
+        && plan.checks_of(node).len() == checks
+        && check.promise == promise
+        && (*matrix, *v) == product
+        && (checked, x) == product
+}
+
+/// The tasks mul and sums: x is the first local of mul, y the second of sums.
+fn are_corrected(plan: &Plan) -> bool {
+    is_corrected(plan, 1, (0, 0), 1, 2) && is_corrected(plan, 2, (1, 1), 2, 1)
+}
+
+#[test]
+fn two_matrices_and_two_corrected_tasks_are_planned(rt: HostRuntime) -> Result<(), Fail> {
+    let plan = planned(rt.alloc(), PRODUCTS).ok_or("no plan")?;
+    assert!(rt; has_matrices(&plan) && are_corrected(&plan));
     Ok(())
 }

@@ -2,10 +2,10 @@
 
 ghost use Rattle.std.specs.Prelude.{◌≡◌, ◌⊎◌, ℕ, List};
 ghost use Rattle.rh_words.specs.declared.reason.Reason.{Reason};
-ghost use Rattle.rh_task_text.specs.Program.{ProgramText};
+ghost use Rattle.rh_task_text.specs.Program.{ProgramText, IsLawfulText};
 ghost use Rattle.rh_planner.specs.Planned.{FirstBreak};
 ghost use Rattle.rh_injector.specs.declared.fault_text.FaultLine.{FaultLine};
-ghost use Rattle.rh_check.specs.Users.{HandedChecks};
+ghost use Rattle.rh_check.specs.Users.{HandedChecks, ArePaired};
 ghost use Rattle.rh_injector.specs.declared.faults.Strike.{Strike};
 ghost use Rattle.rh_plan.specs.FaultLines.{AreFaultsOfText, FirstBadFault};
 ghost use Rattle.rh_plan.specs.FaultsOfPlans.{AreFaultsOf};
@@ -19,10 +19,16 @@ ghost use Rattle.rh_plan.specs.PlanTexts.{PlansSayTheirTexts};
 ghost use Rattle.rh_plan.specs.Tried.{FewTrials};
 ghost use Rattle.rh_plan.specs.Values.{ResultsRestOnLower, UnskippedTasksAreReady};
 
-/// A plan says its text: the `promise` and `finish` lines are its promises, and all lines are those of tasks, groups and scopes, within one
-/// another, which are its nodes, where the numbers of promises, locals and handed-in checks are read by their names.
+/// A plan says its text: the `promise` and `finish` lines are its promises, and all lines are those of matrices, tasks, groups and scopes,
+/// within one another, which are its matrices and nodes, where the numbers of promises, matrices, locals and handed-in checks are read by
+/// their names.
 pub fn plans_say_their_texts()
     ensures { PlansSayTheirTexts }
+{}
+
+/// The plan of a lawful text is lawful, where each handed-in check has one name and asks one thing.
+pub fn planned_texts_have_lawful_plans()
+    ensures { (handed : HandedChecks) (text : ProgramText) (plan : PlanData) → ArePaired handed → IsLawfulText text → IsPlanOf handed text plan → IsLawfulPlan plan }
 {}
 
 /// The result of a node is what the results of the lower nodes give it, whatever higher nodes there are.
@@ -55,7 +61,7 @@ pub fn accepted_buffers_follow_bodies()
     ensures { AcceptedBuffersFollowBodies }
 {}
 
-/// No node has more than 9 trials.
+/// No node has more than 8 trials.
 pub fn few_trials()
     ensures { FewTrials }
 {}

@@ -29,9 +29,9 @@ mod tests;
 pub use edge::Edge;
 pub use laws::{
     a_fault_text_has_faults_or_a_first_bad_line, a_text_has_a_plan_or_a_first_break,
-    accepted_buffers_follow_bodies, budgets_are_kept, few_trials, plans_say_their_texts,
-    results_rest_on_lower, summed_tasks_replay_within, unskipped_tasks_are_ready,
-    values_are_fault_free,
+    accepted_buffers_follow_bodies, budgets_are_kept, few_trials, planned_texts_have_lawful_plans,
+    plans_say_their_texts, results_rest_on_lower, summed_tasks_replay_within,
+    unskipped_tasks_are_ready, values_are_fault_free,
 };
 pub use made_put::MadePut;
 pub use outcome::{Cause, Trial, Verdict};

@@ -8,7 +8,7 @@ ghost use Rattle.rh_plan.specs.Planned.{IsPlanOf};
 ghost use Rattle.rh_plan.specs.Users.{AreChecksOf};
 
 use crate::plans::Plan;
-use rh_check::{Checks, Matrices};
+use rh_check::Checks;
 use rh_planner::{Drafts, drafts};
 use rh_task_text::Text;
 use rh_words::{Fault, Refusal};
@@ -21,6 +21,10 @@ pub fn plan<C: Checks>(alloc: Global, text: &Text, checks: &C) -> Result<Plan, F
     ensures checks { IfOk result (λ plan. AreChecksOf plan (C.specs checks.now)) }
     ensures refused { OnRefused result (λ refusal. FirstBreak (handed_checks (C.names checks.now) (C.specs checks.now)) text.now refusal.line refusal.reason) }
 {
-    let Drafts { nodes, promises } = drafts(alloc, text, checks)?;
-    Ok(Plan::of(alloc, nodes, promises, Matrices::new(alloc))?)
+    let Drafts {
+        nodes,
+        promises,
+        matrices,
+    } = drafts(alloc, text, checks)?;
+    Ok(Plan::of(alloc, nodes, promises, matrices)?)
 }

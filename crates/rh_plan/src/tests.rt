@@ -168,9 +168,8 @@ fn is_replayed(plan: &Plan, node: u32) -> bool {
     check.promise == 1 && plan.attempts(node) == 3 && plan.need(node) == 10
 }
 
-#[test]
-fn a_replayed_task_has_its_attempts_and_its_check(rt: HostRuntime) -> Result<(), Fail> {
-    let text = b"rhc 1
+/// The task a is replicated, and b is replayed.
+const REPLAYED: &[u8] = b"rhc 1
 promise x 2
 promise y 2
 task a replicate
@@ -182,7 +181,14 @@ put y x
 check total y 30
 end
 ";
-    let plan = planned(rt.alloc(), text).ok_or("no plan")?;
-    assert!(rt; plan.nodes() == 2 && is_replayed(&plan, 1) && plan.attempts(0) == 3);
+
+fn has_attempts(plan: &Plan) -> bool {
+    plan.nodes() == 2 && is_replayed(plan, 1) && plan.attempts(0) == 3
+}
+
+#[test]
+fn a_replayed_task_has_its_attempts_and_its_check(rt: HostRuntime) -> Result<(), Fail> {
+    let plan = planned(rt.alloc(), REPLAYED).ok_or("no plan")?;
+    assert!(rt; has_attempts(&plan));
     Ok(())
 }

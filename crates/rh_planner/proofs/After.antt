@@ -1,13 +1,16 @@
 -- What each kind of statement adds to the facts above.
-use Rattle.std.proofs.Common.{◌≡◌, ℕ, ◌+◌, List, [], ◌∷◌, ◌++◌, Bool, true, false, arith, map, append-nil, None}
+use Rattle.std.proofs.Common.{◌≡◌, ℕ, ◌+◌, List, [], ◌∷◌, ◌++◌, Bool, true, false, arith, refl, map, append-nil, ap, Option, Some, None, length}
+use Rattle.std.specs.Prelude.{option_to_list}
+use Rattle.std.specs.Option.{option_map}
 use Rattle.rh_task_text.specs.declared.statement.Statement.TheVariants as text
 use Rattle.rh_task_text.specs.declared.statement.SchemeText.TheVariants.{Plain}
-use Rattle.rh_rules.specs.Tables.{declared_promise, promise_number, number_of, putting, given}
-use Rattle.rh_rules.specs.Facets.{facets}
+use Rattle.rh_sparse.specs.Matrix.{MatrixData, matrix_data}
+use Rattle.rh_rules.specs.Tables.{declared_promise, promise_number, number_of, putting, given, named_shape}
+use Rattle.rh_rules.specs.Facets.{facets, cells_of}
 use Rattle.rh_rules.specs.declared.block.OpenBlock.{OpenBlock}
-use Rattle.rh_rules.specs.declared.block.OpenBlock.TheVariants.{TaskBlock, GroupBlock, ScopeBlock}
+use Rattle.rh_rules.specs.declared.block.OpenBlock.TheVariants.{TaskBlock, MatrixBlock, GroupBlock, ScopeBlock}
 use Rattle.rh_rules.specs.declared.node.Node.{Node}
-use Rattle.rh_rules.specs.Above.{Look, Facts, await_local, drop_step, task_node, group_node, scope_node, group_in, lets_of, planned_scheme}
+use Rattle.rh_rules.specs.Above.{Look, Facts, await_local, drop_step, task_node, group_node, scope_node, group_in, lets_of, planned_scheme, with_row}
 use Rattle.rh_rules.specs.declared.node.Scheme.TheVariants as schemes
 use Rattle.rh_task_text.specs.declared.statement.SchemeText.{SchemeText}
 use Rattle.rh_check.specs.Users.{HandedChecks}
@@ -17,16 +20,22 @@ use Rattle.rh_planner.specs.Following.{after}
 no_more : (n : ℕ) → n + 0 ≡ n
 no_more n = omega arith
 
+-- a line that adds no row leaves the open matrix
+pub no_row : (begun : Option MatrixData) → option_map (with_row None) begun ≡ begun
+no_row None = refl
+no_row (Some a) = refl
+
 abbrev pub with_promise : Facts → List ℕ → ℕ → Bool → Facts
 with_promise f name len temp = record f { names = f.names ++ name ∷ []; promises = f.promises ++ declared_promise name len temp false ∷ [] }
 
 pub after_promise : (look : Look) (f : Facts) (name : List ℕ) (len : ℕ) (temp : Bool) → after look f (text.Promise name len temp) ≡ with_promise f name len temp
 unfolding facets
-after_promise look f name len temp = simp (append-nil, no_more)
+after_promise look f name len temp = simp (append-nil, no_more, no_row)
 
 abbrev pub with_task : Facts → List ℕ → SchemeText → List (List ℕ) → Facts
 with_task f name scheme awaits = record f {
   names = f.names ++ name ∷ [];
+  begun = None;
   blocks = TaskBlock name ∷ f.blocks;
   inputs = map (promise_number f.promises) awaits;
   locals = map (await_local f.promises) awaits;
@@ -44,6 +53,7 @@ abbrev pub with_finish : Facts → List ℕ → Facts
 with_finish f name = record f {
   names = f.names ++ name ∷ [];
   promises = f.promises ++ declared_promise name 3 false true ∷ [];
+  begun = None;
   blocks = ScopeBlock name f.count ∷ f.blocks;
   inputs = [];
   locals = [];
@@ -63,6 +73,7 @@ group_in_facts f name awaits = group_node name (map (promise_number f.promises) 
 abbrev pub with_group : Facts → List ℕ → List (List ℕ) → Facts
 with_group f name awaits = record f {
   names = f.names ++ name ∷ [];
+  begun = None;
   blocks = GroupBlock f.count ∷ f.blocks;
   count = f.count + 1;
   nodes = f.nodes ++ group_in_facts f name awaits ∷ [];
@@ -78,9 +89,36 @@ pub after_group : (handed : HandedChecks) (f : Facts) (name : List ℕ) (awaits 
 unfolding facets
 after_group handed f name awaits = simp append-nil
 
+abbrev pub with_matrix : Facts → List ℕ → ℕ → ℕ → Facts
+with_matrix f name rows cols = record f {
+  names = f.names ++ name ∷ [];
+  matrices = f.matrices ++ named_shape name rows cols ∷ [];
+  begun = Some (matrix_data cols []);
+  blocks = MatrixBlock ∷ f.blocks;
+  inputs = [];
+  locals = [];
+  drops = [];
+  steps = [];
+  scheme = schemes.Plain;
+  checks = [];
+}
+
+pub after_matrix : (look : Look) (f : Facts) (name : List ℕ) (rows cols : ℕ) → after look f (text.Matrix name rows cols) ≡ with_matrix f name rows cols
+unfolding facets
+after_matrix look f name rows cols = simp (append-nil, no_more)
+
+abbrev pub with_begun : Facts → Option MatrixData → Facts
+with_begun f begun = record f { begun = begun }
+
+pub after_row : (look : Look) (f : Facts) (columns values : List ℕ) → after look f (text.Row columns values) ≡ with_begun f (option_map (with_row (Some (cells_of columns values))) f.begun)
+unfolding facets
+after_row look f columns values = simp (append-nil, no_more)
+
 -- the facts below an `end`, with these blocks left open
 abbrev pub with_closed : Facts → List OpenBlock → Facts
 with_closed f outer = record f {
+  closed = f.closed ++ option_to_list f.begun;
+  begun = None;
   blocks = outer;
   inputs = [];
   locals = [];
@@ -128,4 +166,12 @@ with_drop f q = record f { drops = f.drops ++ number_of f.locals q ∷ []; steps
 
 pub after_drop : (look : Look) (f : Facts) (q : List ℕ) → after look f (text.DropAwait q) ≡ with_drop f q
 unfolding facets
-after_drop look f q = simp (append-nil, no_more)
+after_drop look f q = simp (append-nil, no_more, no_row)
+
+pub after_end_matrix : (look : Look) (f : Facts) (outer : List OpenBlock) → f.blocks ≡ MatrixBlock ∷ outer → after look f text.End ≡ with_closed f outer
+unfolding facets
+after_end_matrix look f outer e = rw e (simp (append-nil, no_more))
+
+pub after_end_none : (look : Look) (f : Facts) → f.blocks ≡ [] → after look f text.End ≡ with_closed f []
+unfolding facets
+after_end_none look f e = rw e (simp (append-nil, no_more))

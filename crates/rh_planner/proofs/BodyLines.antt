@@ -10,6 +10,7 @@ use Rattle.std.proofs.lemmas.Option.{none-some, same_Some}
 use Rattle.std.proofs.lemmas.List.{map-append, length-map}
 use Rattle.std.proofs.lemmas.Map.Keys.{apart_from_distinct}
 use Rattle.rh_words.specs.Naming.{is_name}
+use Rattle.rh_rules.specs.declared.shape.Shape.{Shape}
 use Rattle.rh_rules.specs.declared.body.Step.{Step}
 use Rattle.rh_rules.specs.declared.body.Step.TheVariants as steps
 use Rattle.rh_rules.specs.declared.node.PlannedPromise.{PlannedPromise}
@@ -39,19 +40,19 @@ nothing_more : (whole before added : List ℕ) → whole ≡ before ++ added →
 nothing_more whole before added more none = more ∙ ap (λ (l : List ℕ). before ++ l) none ∙ append-nil before
 
 -- a step that is sound among the locals is sound after the steps before it
-sound_push : (ps : List PlannedPromise) (v : ℕ) (inputs : List ℕ) (body : List Step) (lens : List ℕ) (step : Step) → IsSoundTask ps v inputs body → lens_here ps inputs body ≡ lens → IsSoundStep [] (promise_lens ps) lens step
-    → AreSoundSteps [] (promise_lens ps) (lens_at (promise_lens ps) inputs) (body ++ step ∷ [])
-sound_push ps v inputs body lens step task same sound = steps_push (promise_lens ps) (lens_at (promise_lens ps) inputs) body step task.sound (subst (λ (l : List ℕ). IsSoundStep [] (promise_lens ps) l step) (sym same) sound)
+sound_push : (shapes : List Shape) (ps : List PlannedPromise) (v : ℕ) (inputs : List ℕ) (body : List Step) (lens : List ℕ) (step : Step) → IsSoundTask shapes ps v inputs body → lens_here shapes ps inputs body ≡ lens → IsSoundStep shapes (promise_lens ps) lens step
+    → AreSoundSteps shapes (promise_lens ps) (lens_at (promise_lens ps) inputs) (body ++ step ∷ [])
+sound_push shapes ps v inputs body lens step task same sound = steps_push shapes (promise_lens ps) (lens_at (promise_lens ps) inputs) body step task.sound (subst (λ (l : List ℕ). IsSoundStep shapes (promise_lens ps) l step) (sym same) sound)
 
-pub sound_let : (f : Facts) (x : List ℕ) (len : ℕ) (step : Step) → AreSound f → is_local f.locals x ≡ false → is_name x ≡ true → IsSoundStep [] (promise_lens f.promises) (lens_of f.locals) step → let_len [] (lens_of f.locals) step ≡ Some len → IsShort len → put_at step ≡ [] → drop_at step ≡ []
-    → AreSound (record f { locals = f.locals ++ local x len ∷ []; steps = f.steps ++ step ∷ [] })
-sound_let f x len step s fresh named sound long short no_put no_drop =
+pub sound_let : (shapes : List Shape) (f : Facts) (x : List ℕ) (len : ℕ) (step : Step) → AreSound shapes f → is_local f.locals x ≡ false → is_name x ≡ true → IsSoundStep shapes (promise_lens f.promises) (lens_of f.locals) step → let_len shapes (lens_of f.locals) step ≡ Some len → IsShort len → put_at step ≡ [] → drop_at step ≡ []
+    → AreSound shapes (record f { locals = f.locals ++ local x len ∷ []; steps = f.steps ++ step ∷ [] })
+sound_let shapes f x len step s fresh named sound long short no_put no_drop =
     let ps : List PlannedPromise = f.promises in
     let puts : promises_put (f.steps ++ step ∷ []) ≡ promises_put f.steps = nothing_more _ (promises_put f.steps) (put_at step) (promises_put_push f.steps step) no_put in
     let drops : drops_of (f.steps ++ step ∷ []) ≡ drops_of f.steps = nothing_more _ (drops_of f.steps) (drop_at step) (drops_of_push f.steps step) no_drop in
-    let longer : lens_here ps f.inputs (f.steps ++ step ∷ []) ≡ lens_of f.locals ++ len ∷ [] =
-    lens_after_push (lens_at (promise_lens ps) f.inputs) f.steps step
-    ∙ ap (λ (l : List ℕ). lens_after [] l step) s.lens
+    let longer : lens_here shapes ps f.inputs (f.steps ++ step ∷ []) ≡ lens_of f.locals ++ len ∷ [] =
+    lens_after_push shapes (lens_at (promise_lens ps) f.inputs) f.steps step
+    ∙ ap (λ (l : List ℕ). lens_after shapes l step) s.lens
     ∙ ap (λ (o : Option ℕ). with_len (lens_of f.locals) o) long in
     let all_short : AllByRecursion IsShort (lens_of f.locals) = subst (AllByRecursion IsShort) s.lens s.task.short in
     record {
@@ -63,12 +64,13 @@ sound_let f x len step s fresh named sound long short no_put no_drop =
       total = s.total;
       shown = s.shown;
       ended = s.ended;
+      matrices = s.matrices;
       enclosed = s.enclosed;
       scopes = s.scopes;
       task = record {
         awaited = s.task.awaited;
         awaits_once = s.task.awaits_once;
-        sound = sound_push ps (length f.nodes) f.inputs f.steps (lens_of f.locals) step s.task s.lens sound;
+        sound = sound_push shapes ps (length f.nodes) f.inputs f.steps (lens_of f.locals) step s.task s.lens sound;
         own = subst (AllByRecursion (λ q. putter_of ps q ≡ Some (length f.nodes))) (sym puts) s.task.own;
         once = subst (IsDistinct nat_eq) (sym puts) s.task.once;
         unscoped = subst (AllByRecursion (λ q. scope_of ps q ≡ Some false)) (sym puts) s.task.unscoped;
@@ -80,7 +82,7 @@ sound_let f x len step s fresh named sound long short no_put no_drop =
       drops = drops ∙ s.drops;
       drops_within = s.drops_within;
       named = locals_pushed ps f.inputs f.locals x len s.named fresh named;
-      checks = subst (λ (l : List ℕ). AllByRecursion (IsSoundCheck ps f.inputs l) f.checks) (sym puts) s.checks;
+      checks = subst (λ (l : List ℕ). AllByRecursion (IsSoundCheck shapes ps f.inputs l) f.checks) (sym puts) s.checks;
       unchecked = s.unchecked;
       put = λ q v e. elim (s.put q v e) [
         | inl old ↦ inl old
@@ -127,14 +129,14 @@ drops_apart inputs (j ∷ drops) i distinct all h e = step (nat_eq j i) refl e (
         own : (k : ℕ) → nat_eq k k ≡ true
         own k = elim (eqb_tells k k) [ inl e ↦ e.0 | inr o ↦ absurd (o.1 refl) ]
 
-pub sound_drop : (f : Facts) (i : ℕ) → AreSound f → i < length f.inputs → is_in i f.drops ≡ false → AreSound (record f { drops = f.drops ++ i ∷ []; steps = f.steps ++ steps.DropAwait (slice_index f.inputs i) ∷ [] })
-sound_drop f i s within fresh =
+pub sound_drop : (shapes : List Shape) (f : Facts) (i : ℕ) → AreSound shapes f → i < length f.inputs → is_in i f.drops ≡ false → AreSound shapes (record f { drops = f.drops ++ i ∷ []; steps = f.steps ++ steps.DropAwait (slice_index f.inputs i) ∷ [] })
+sound_drop shapes f i s within fresh =
     let ps : List PlannedPromise = f.promises in
     let step : Step = steps.DropAwait (slice_index f.inputs i) in
     let at = λ (j : ℕ). slice_index f.inputs j in
     let puts : promises_put (f.steps ++ step ∷ []) ≡ promises_put f.steps = nothing_more _ (promises_put f.steps) [] (promises_put_push f.steps step) refl in
     let drops : drops_of (f.steps ++ step ∷ []) ≡ drops_of f.steps ++ slice_index f.inputs i ∷ [] = drops_of_push f.steps step in
-    let same : lens_here ps f.inputs (f.steps ++ step ∷ []) ≡ lens_here ps f.inputs f.steps = lens_after_push (lens_at (promise_lens ps) f.inputs) f.steps step in
+    let same : lens_here shapes ps f.inputs (f.steps ++ step ∷ []) ≡ lens_here shapes ps f.inputs f.steps = lens_after_push shapes (lens_at (promise_lens ps) f.inputs) f.steps step in
     let there : slice_index f.inputs i < length (promise_lens ps) = all_index (λ q. q < length (promise_lens ps)) f.inputs i (awaited_within ps (length f.nodes) f.inputs s.task.awaited) within in
     let apart : AllByRecursion (λ x. nat_eq x (slice_index f.inputs i) ≡ false) (drops_of f.steps) = subst (AllByRecursion (λ x. nat_eq x (slice_index f.inputs i) ≡ false)) (sym s.drops) (drops_apart f.inputs f.drops i s.task.awaits_once s.drops_within within fresh) in
     record {
@@ -146,12 +148,13 @@ sound_drop f i s within fresh =
       total = s.total;
       shown = s.shown;
       ended = s.ended;
+      matrices = s.matrices;
       enclosed = s.enclosed;
       scopes = s.scopes;
       task = record {
         awaited = s.task.awaited;
         awaits_once = s.task.awaits_once;
-        sound = sound_push ps (length f.nodes) f.inputs f.steps (lens_of f.locals) step s.task s.lens there;
+        sound = sound_push shapes ps (length f.nodes) f.inputs f.steps (lens_of f.locals) step s.task s.lens there;
         own = subst (AllByRecursion (λ q. putter_of ps q ≡ Some (length f.nodes))) (sym puts) s.task.own;
         once = subst (IsDistinct nat_eq) (sym puts) s.task.once;
         unscoped = subst (AllByRecursion (λ q. scope_of ps q ≡ Some false)) (sym puts) s.task.unscoped;
@@ -163,7 +166,7 @@ sound_drop f i s within fresh =
       drops = drops ∙ ap (λ (l : List ℕ). l ++ slice_index f.inputs i ∷ []) s.drops ∙ sym (map-append at f.drops (i ∷ []));
       drops_within = all_append (λ j. j < length f.inputs) f.drops (i ∷ []) s.drops_within (within, tt);
       named = s.named;
-      checks = subst (λ (l : List ℕ). AllByRecursion (IsSoundCheck ps f.inputs l) f.checks) (sym puts) s.checks;
+      checks = subst (λ (l : List ℕ). AllByRecursion (IsSoundCheck shapes ps f.inputs l) f.checks) (sym puts) s.checks;
       unchecked = s.unchecked;
       put = λ q v e. elim (s.put q v e) [
         | inl old ↦ inl old
@@ -182,10 +185,10 @@ not_own q p x j ps i distinct here named at unscoped scope = step (bytes_eq q x.
         let one : p ≡ x = same_Some p x (sym here ∙ ap (λ (k : ℕ). slice_get ps k) place ∙ at) in
         absurd (false≢true (sym unscoped ∙ ap (λ (y : PlannedPromise). y.scope) one ∙ scope))
 
-pub sound_put : (f : Facts) (q : List ℕ) (p : PlannedPromise) (a : ℕ) (when : Option ℕ) → AreSound f → f.count ≡ length f.nodes → IsDeclaredAs f.promises q p → p.putter ≡ None → p.scope ≡ false
-    → IsSoundStep [] (promise_lens f.promises) (lens_of f.locals) (steps.Put (promise_number f.promises q) a when)
-    → AreSound (record f { promises = map (given (putting q f.count)) f.promises; steps = f.steps ++ steps.Put (promise_number f.promises q) a when ∷ [] })
-sound_put f q p a when s counted d none unscoped sound =
+pub sound_put : (shapes : List Shape) (f : Facts) (q : List ℕ) (p : PlannedPromise) (a : ℕ) (when : Option ℕ) → AreSound shapes f → f.count ≡ length f.nodes → IsDeclaredAs f.promises q p → p.putter ≡ None → p.scope ≡ false
+    → IsSoundStep shapes (promise_lens f.promises) (lens_of f.locals) (steps.Put (promise_number f.promises q) a when)
+    → AreSound shapes (record f { promises = map (given (putting q f.count)) f.promises; steps = f.steps ++ steps.Put (promise_number f.promises q) a when ∷ [] })
+sound_put shapes f q p a when s counted d none unscoped sound =
     let ps : List PlannedPromise = f.promises in
     let t : Putting = putting q f.count in
     let qs : List PlannedPromise = map (given t) ps in
@@ -197,9 +200,9 @@ sound_put f q p a when s counted d none unscoped sound =
     let lens : promise_lens qs ≡ promise_lens ps = stays_given (λ x. x.len) (λ x o. refl) t ps in
     let puts : promises_put (f.steps ++ step ∷ []) ≡ promises_put f.steps ++ i ∷ [] = promises_put_push f.steps step in
     let drops : drops_of (f.steps ++ step ∷ []) ≡ drops_of f.steps = nothing_more _ (drops_of f.steps) [] (drops_of_push f.steps step) refl in
-    let task = task_grown ps qs v f.inputs f.steps grows s.task in
-    let here : lens_here qs f.inputs f.steps ≡ lens_of f.locals = locals_grown ps qs v f.inputs f.steps grows s.task.awaited ∙ s.lens in
-    let same : lens_here qs f.inputs (f.steps ++ step ∷ []) ≡ lens_here qs f.inputs f.steps = lens_after_push (lens_at (promise_lens qs) f.inputs) f.steps step in
+    let task = task_grown shapes ps qs v f.inputs f.steps grows s.task in
+    let here : lens_here shapes qs f.inputs f.steps ≡ lens_of f.locals = locals_grown shapes ps qs v f.inputs f.steps grows s.task.awaited ∙ s.lens in
+    let same : lens_here shapes qs f.inputs (f.steps ++ step ∷ []) ≡ lens_here shapes qs f.inputs f.steps = lens_after_push shapes (lens_at (promise_lens qs) f.inputs) f.steps step in
     let before : putter_of ps i ≡ None = putter_at ps i p d.at ∙ none in
     let after : putter_of qs i ≡ Some v = put_new t ps i p d.at (name_is q p.name (sym d.named)) none ∙ ap Some counted in
     let apart : AllByRecursion (λ k. nat_eq k i ≡ false) (promises_put f.steps) =
@@ -215,14 +218,15 @@ sound_put f q p a when s counted d none unscoped sound =
       few = let h : length qs ≡ length ps = simp length-map in rw h s.few;
       total = subst (λ (n : ℕ). n ≤ 16777216) (ap sum (sym lens)) s.total;
       shown = subst (λ (n : ℕ). n ≤ 1048576) (ap sum (sym (stays_given shown_by (λ x o. refl) t ps))) s.shown;
-      ended = λ u node at. node_grown ps qs u node grows (s.ended u node at);
+      ended = λ u node at. node_grown shapes ps qs u node grows (s.ended u node at);
+      matrices = s.matrices;
       enclosed = s.enclosed;
       scopes = λ k x at scope none. let (y, old, is, unput) = unput_given t ps k x at none in
           subst (λ (z : PlannedPromise). is_among z.name (scope_names f.blocks) ≡ true) (sym is) (s.scopes k y old (ap (λ (z : PlannedPromise). z.scope) (sym is) ∙ scope) unput);
       task = record {
         awaited = task.awaited;
         awaits_once = task.awaits_once;
-        sound = sound_push qs v f.inputs f.steps (lens_of f.locals) step task here (subst (λ (l : List ℕ). IsSoundStep [] l (lens_of f.locals) step) (sym lens) sound);
+        sound = sound_push shapes qs v f.inputs f.steps (lens_of f.locals) step task here (subst (λ (l : List ℕ). IsSoundStep shapes l (lens_of f.locals) step) (sym lens) sound);
         own = subst (AllByRecursion (λ k. putter_of qs k ≡ Some v)) (sym puts) (all_append (λ k. putter_of qs k ≡ Some v) (promises_put f.steps) (i ∷ []) task.own (after, tt));
         once = subst (IsDistinct nat_eq) (sym puts) (distinct_push (promises_put f.steps) i task.once apart);
         unscoped = subst (AllByRecursion (λ k. scope_of qs k ≡ Some false)) (sym puts) (all_append (λ k. scope_of qs k ≡ Some false) (promises_put f.steps) (i ∷ []) task.unscoped (grows.scopes i false (scope_at ps i p d.at ∙ ap Some unscoped), tt));
@@ -234,8 +238,8 @@ sound_put f q p a when s counted d none unscoped sound =
       drops = drops ∙ s.drops;
       drops_within = s.drops_within;
       named = locals_named_grown ps qs v f.inputs f.locals grows s.task.awaited s.named;
-      checks = subst (λ (l : List ℕ). AllByRecursion (IsSoundCheck qs f.inputs l) f.checks) (sym puts)
-          (all_map f.checks (λ c h. let g = check_grown ps qs v f.inputs (promises_put f.steps) c grows s.task.awaited s.task.own h in record { put = among_more (promises_put f.steps) (i ∷ []) c.promise g.put; fits = g.fits }) s.checks);
+      checks = subst (λ (l : List ℕ). AllByRecursion (IsSoundCheck shapes qs f.inputs l) f.checks) (sym puts)
+          (all_map f.checks (λ c h. let g = check_grown shapes ps qs v f.inputs (promises_put f.steps) c grows s.task.awaited s.task.own h in record { put = among_more (promises_put f.steps) (i ∷ []) c.promise g.put; fits = g.fits }) s.checks);
       unchecked = s.unchecked;
       put = λ k u e. elim (put_split t ps k u e) [
         | inl old ↦ elim (s.put k u old) [
@@ -249,8 +253,8 @@ sound_put f q p a when s counted d none unscoped sound =
     }
 
 -- one more check, of a task that may have checks
-pub sound_check : (f : Facts) (c : KeptCheck) → AreSound f → may_check f.scheme ≡ true → IsSoundCheck f.promises f.inputs (promises_put f.steps) c → AreSound (record f { checks = f.checks ++ c ∷ [] })
-sound_check f c s may sound = record {
+pub sound_check : (shapes : List Shape) (f : Facts) (c : KeptCheck) → AreSound shapes f → may_check f.scheme ≡ true → IsSoundCheck shapes f.promises f.inputs (promises_put f.steps) c → AreSound shapes (record f { checks = f.checks ++ c ∷ [] })
+sound_check shapes f c s may sound = record {
   promise_names = s.promise_names;
   node_names = s.node_names;
   blocks = s.blocks;
@@ -259,6 +263,7 @@ sound_check f c s may sound = record {
   total = s.total;
   shown = s.shown;
   ended = s.ended;
+  matrices = s.matrices;
   enclosed = s.enclosed;
   scopes = s.scopes;
   task = s.task;
@@ -266,7 +271,7 @@ sound_check f c s may sound = record {
   drops = s.drops;
   drops_within = s.drops_within;
   named = s.named;
-  checks = all_append (IsSoundCheck f.promises f.inputs (promises_put f.steps)) f.checks (c ∷ []) s.checks (sound, tt);
+  checks = all_append (IsSoundCheck shapes f.promises f.inputs (promises_put f.steps)) f.checks (c ∷ []) s.checks (sound, tt);
   unchecked = λ none. absurd (true≢false (sym may ∙ none));
   put = s.put;
 }

@@ -1,5 +1,5 @@
 -- A promise that is declared, by its name and by its number.
-use Rattle.std.proofs.Common.{◌≡◌, ℕ, zero, suc, ◌<◌, List, [], ◌∷◌, Bool, true, false, Option, Some, None, length, map, get_or, slice_index, refl, arith, ap, sym, ◌∙◌, subst}
+use Rattle.std.proofs.Common.{◌≡◌, ℕ, zero, suc, ◌<◌, List, [], ◌∷◌, ◌++◌, Bool, true, false, Option, Some, None, length, map, get_or, slice_index, refl, arith, ap, sym, ◌∙◌, subst}
 use Rattle.std.specs.Prelude.{slice_get, option_and_then, is_some, unwrap_or}
 use Rattle.std.specs.List.{AllByRecursion, IsDistinct}
 use Rattle.std.specs.Option.{option_map}
@@ -26,6 +26,12 @@ pub all_at : {X : Type 0} (P : X → Type 0) (xs : List X) (i : ℕ) (x : X) →
 all_at P [] i x all e = absurd (none-some x e)
 all_at P (y ∷ xs) zero x all e = subst P (same_Some y x e) all.0
 all_at P (y ∷ xs) (suc i) x all e = all_at P xs i x all.1 e
+
+-- what stands in a list stands in a longer one
+pub slice_get_append : {X : Type 0} (xs ys : List X) (i : ℕ) (x : X) → slice_get xs i ≡ Some x → slice_get (xs ++ ys) i ≡ Some x
+slice_get_append [] ys i x e = absurd (none-some x e)
+slice_get_append (a ∷ xs) ys zero x e = e
+slice_get_append (a ∷ xs) ys (suc i) x e = slice_get_append xs ys i x e
 
 -- what stands in a list after a function of each
 pub mapped_at : {X Y : Type 0} (f : X → Y) (xs : List X) (i : ℕ) (x : X) → slice_get xs i ≡ Some x → slice_get (map f xs) i ≡ Some (f x)

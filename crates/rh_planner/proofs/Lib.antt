@@ -6,6 +6,8 @@ pub mod Reading
 pub mod Lets
 pub mod Puts
 pub mod CheckLines
+pub mod Cells
+pub mod Correctors
 pub mod Tasks
 pub mod Refusing
 pub mod Stepping

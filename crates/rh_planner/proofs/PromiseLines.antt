@@ -1,33 +1,39 @@
 -- A line that declares a promise, and an `end`, keep the facts sound.
-use Rattle.std.proofs.Common.{◌≡◌, ℕ, ◌+◌, ◌≤◌, List, [], ◌∷◌, ◌++◌, Bool, true, false, Some, None, cond, not, length, map, sum, refl, arith, ap, sym, ◌∙◌, subst, inl, inr, append_assoc, length-append}
+use Rattle.std.proofs.Common.{◌≡◌, ℕ, ◌+◌, ◌≤◌, List, [], ◌∷◌, ◌++◌, Bool, true, false, Option, Some, None, cond, not, length, map, sum, refl, arith, ap, sym, ◌∙◌, subst, inl, inr, append_assoc, length-append}
 use Rattle.std.specs.Prelude.{slice_get, nat_le, nat_lt, ◌&&◌, ◌||◌}
 use Rattle.std.specs.List.{AllByRecursion, IsDistinct}
 use Rattle.std.specs.Str.{bytes_eq}
-use Rattle.std.proofs.lemmas.Bool.{false≢true, or_left, or_right}
+use Rattle.std.proofs.lemmas.Bool.{false≢true, true≢false, or_left, or_right}
 use Rattle.std.proofs.lemmas.Bool.Decides.{nat_tests}
 use Rattle.std.proofs.lemmas.Option.{none-some}
 use Rattle.std.proofs.lemmas.List.{map-append, length-map}
 use Rattle.std.proofs.lemmas.List.Sums.{sum-map, sum_by_push}
 use Rattle.rh_words.specs.Naming.{is_name}
 use Rattle.rh_task_text.specs.declared.statement.Statement.{Statement}
+use Rattle.rh_task_text.specs.declared.statement.Statement.TheVariants as text
 use Rattle.rh_task_text.specs.Blocks.{lets_here, checks_here}
+use Rattle.rh_rules.specs.declared.shape.Shape.{Shape}
 use Rattle.rh_rules.specs.declared.body.Step.{Step}
 use Rattle.rh_rules.specs.declared.node.Node.{Node}
 use Rattle.rh_rules.specs.declared.node.PlannedPromise.{PlannedPromise}
-use Rattle.rh_rules.specs.Tables.{declared_promise, is_among, lens_of}
+use Rattle.rh_rules.specs.Tables.{declared_promise, named_shape, is_among, lens_of}
 use Rattle.rh_rules.specs.Bodies.{promises_put}
-use Rattle.rh_rules.specs.Lawful.{IsAmong, IsEnclosedBelow}
+use Rattle.rh_rules.specs.Lawful.{IsAmong, IsEnclosedBelow, is_product, has_product, product_checks}
+use Rattle.rh_rules.specs.Kept.{KeptCheck}
 use Rattle.rh_rules.specs.declared.block.OpenBlock.{OpenBlock}
-use Rattle.rh_rules.specs.declared.block.OpenBlock.TheVariants.{TaskBlock, GroupBlock, ScopeBlock}
-use Rattle.rh_rules.specs.Above.{Facts, words_in, shown_in, group_in, task_node, lets_of}
-use Rattle.rh_rules.specs.Rules.{is_promise_over}
+use Rattle.rh_rules.specs.declared.block.OpenBlock.TheVariants.{TaskBlock, MatrixBlock, GroupBlock, ScopeBlock}
+use Rattle.rh_sparse.specs.Matrix.{MatrixData}
+use Rattle.rh_rules.specs.Above.{Facts, words_in, shown_in, group_in}
+use Rattle.rh_rules.specs.Rules.{is_promise_over, is_corrected, ends_uncorrected}
+use Rattle.rh_rules.specs.Facets.{facets}
 use Rattle.rh_planner.specs.Sound.{AreCounted}
-use Rattle.rh_planner.proofs.After.{with_promise, with_finish, with_closed, ended_task, with_end}
+use Rattle.rh_planner.proofs.After.{with_promise, with_matrix, with_begun, with_finish, with_closed, ended_task, with_end}
+use Rattle.rh_planner.proofs.OpenBlocks.{with_none}
 use Rattle.rh_planner.proofs.Using.{neither}
-use Rattle.rh_planner.proofs.DeclaredPromises.{putter_parts, putter_at, scope_parts, scope_at, name_is}
+use Rattle.rh_planner.proofs.DeclaredPromises.{putter_parts, putter_at, scope_parts, scope_at, name_is, slice_get_append}
 use Rattle.rh_planner.proofs.SoundChecks.{check_grown}
 use Rattle.rh_planner.proofs.SoundTasks.{IsShort, Grows, all_map, locals_grown, task_grown, all_append, some_and, some_is}
-use Rattle.rh_planner.proofs.SoundFacts.{AreNamed, AreSound, IsSoundPromise, IsSoundNode, a_task, IsTaskNode, IsSoundBlock, IsOpenScope, block_names, scope_names, named_kept, named_push, named_insert, node_grown, enclosed_grown, enclosed_next, blocks_grown, blocks_kept, idle_task, slice_get_append, slice_get_last, slice_get_push_cases}
+use Rattle.rh_planner.proofs.SoundFacts.{AreNamed, AreSound, IsSoundPromise, IsSoundNode, a_task, IsTaskNode, IsSoundBlock, IsOpenScope, block_names, scope_names, named_kept, named_push, named_insert, node_grown, enclosed_grown, enclosed_next, blocks_grown, blocks_kept, idle_task, slice_get_last, slice_get_push_cases}
 use Rattle.rh_planner.proofs.LocalNames.{no_locals, all_counted, locals_named_grown}
 
 declared_grows : (ps : List PlannedPromise) (p : PlannedPromise) → Grows ps (ps ++ p ∷ [])
@@ -73,8 +79,8 @@ record IsDeclaring (f : Facts) (p : PlannedPromise) (blocks : List OpenBlock) : 
   own : p.scope ≡ true → is_among p.name (scope_names blocks) ≡ true
   others : (n : List ℕ) → is_among n (scope_names f.blocks) ≡ true → is_among n (scope_names blocks) ≡ true
 
-sound_declared : (f : Facts) (p : PlannedPromise) (blocks : List OpenBlock) → AreSound f → IsDeclaring f p blocks → AreSound (with_declared f p blocks)
-sound_declared f p blocks s d =
+sound_declared : (shapes : List Shape) (f : Facts) (p : PlannedPromise) (blocks : List OpenBlock) → AreSound shapes f → IsDeclaring f p blocks → AreSound shapes (with_declared f p blocks)
+sound_declared shapes f p blocks s d =
     let ps : List PlannedPromise = f.promises ++ p ∷ [] in
     let grows = declared_grows f.promises p in
     let most = limits f.promises p d.room in
@@ -86,14 +92,15 @@ sound_declared f p blocks s d =
       few = most.0;
       total = most.1;
       shown = most.2;
-      ended = λ v node at. node_grown f.promises ps v node grows (s.ended v node at);
+      ended = λ v node at. node_grown shapes f.promises ps v node grows (s.ended v node at);
+      matrices = s.matrices;
       enclosed = s.enclosed;
-      task = task_grown f.promises ps (length f.nodes) f.inputs f.steps grows s.task;
-      lens = locals_grown f.promises ps (length f.nodes) f.inputs f.steps grows s.task.awaited ∙ s.lens;
+      task = task_grown shapes f.promises ps (length f.nodes) f.inputs f.steps grows s.task;
+      lens = locals_grown shapes f.promises ps (length f.nodes) f.inputs f.steps grows s.task.awaited ∙ s.lens;
       drops = s.drops;
       drops_within = s.drops_within;
       named = locals_named_grown f.promises ps (length f.nodes) f.inputs f.locals grows s.task.awaited s.named;
-      checks = all_map f.checks (λ c sound. check_grown f.promises ps (length f.nodes) f.inputs (promises_put f.steps) c grows s.task.awaited s.task.own sound) s.checks;
+      checks = all_map f.checks (λ c sound. check_grown shapes f.promises ps (length f.nodes) f.inputs (promises_put f.steps) c grows s.task.awaited s.task.own sound) s.checks;
       unchecked = s.unchecked;
       put = λ q v e.
           let (x, at, put) = putter_parts ps q v e in
@@ -108,27 +115,28 @@ sound_declared f p blocks s d =
     }
 
 -- open blocks stay sound beside one more promise
-blocks_declared : (f : Facts) (p : PlannedPromise) → AreSound f → AllByRecursion (IsSoundBlock f.nodes (f.promises ++ p ∷ [])) f.blocks
-blocks_declared f p s = blocks_kept f.nodes f.promises (f.promises ++ p ∷ []) f.blocks (λ i x at among scope. slice_get_append f.promises (p ∷ []) i x at) s.blocks
+blocks_declared : (shapes : List Shape) (f : Facts) (p : PlannedPromise) → AreSound shapes f → AllByRecursion (IsSoundBlock f.nodes (f.promises ++ p ∷ [])) f.blocks
+blocks_declared shapes f p s = blocks_kept f.nodes f.promises (f.promises ++ p ∷ []) f.blocks (λ i x at among scope. slice_get_append f.promises (p ∷ []) i x at) s.blocks
 
-pub sound_promise : (f : Facts) (name : List ℕ) (len : ℕ) (temp : Bool) → AreSound f → is_among name f.names ≡ false → is_promise_over f.promises (declared_promise name len temp false) ≡ false → is_name name ≡ true → IsShort len → AreSound (with_promise f name len temp)
-sound_promise f name len temp s fresh room named short =
+pub sound_promise : (shapes : List Shape) (f : Facts) (name : List ℕ) (len : ℕ) (temp : Bool) → AreSound shapes f → is_among name f.names ≡ false → is_promise_over f.promises (declared_promise name len temp false) ≡ false → is_name name ≡ true → IsShort len → AreSound shapes (with_promise f name len temp)
+sound_promise shapes f name len temp s fresh room named short =
     let p : PlannedPromise = declared_promise name len temp false in
-    sound_declared f p f.blocks s (record {
+    sound_declared shapes f p f.blocks s (record {
       fresh = fresh;
       room = room;
       named = named;
       short = short;
       unput = refl;
       names = named_kept (map (λ (node : Node). node.name) f.nodes ++ block_names f.blocks) f.names name s.node_names;
-      blocks_sound = blocks_declared f p s;
+      blocks_sound = blocks_declared shapes f p s;
       own = λ scope. absurd (false≢true scope);
       others = λ n among. among;
     })
 
--- facts of which nothing is said of an open task, below an `end` and with these blocks left open
-pub sound_closed : (f : Facts) (outer : List OpenBlock) → AreSound f → f.steps ≡ [] → block_names f.blocks ≡ block_names outer → scope_names f.blocks ≡ scope_names outer → AllByRecursion (IsSoundBlock f.nodes f.promises) outer → AreSound (with_closed f outer)
-sound_closed f outer s idle names scopes blocks = record {
+-- such facts stay sound where the blocks have the same names
+sound_none : (shapes : List Shape) (f : Facts) (outer : List OpenBlock) (closed : List MatrixData) (begun : Option MatrixData) → AreSound shapes f → f.steps ≡ [] → block_names f.blocks ≡ block_names outer → scope_names f.blocks ≡ scope_names outer → AllByRecursion (IsSoundBlock f.nodes f.promises) outer
+    → AreSound shapes (with_none f outer closed begun)
+sound_none shapes f outer closed begun s idle names scopes blocks = record {
   promise_names = s.promise_names;
   node_names = subst (λ (l : List (List ℕ)). AreNamed (map (λ (node : Node). node.name) f.nodes ++ l) f.names) names s.node_names;
   blocks = blocks;
@@ -137,8 +145,9 @@ sound_closed f outer s idle names scopes blocks = record {
   total = s.total;
   shown = s.shown;
   ended = s.ended;
+  matrices = s.matrices;
   enclosed = s.enclosed;
-  task = idle_task f.promises (length f.nodes);
+  task = idle_task shapes f.promises (length f.nodes);
   lens = refl;
   drops = refl;
   drops_within = tt;
@@ -152,13 +161,64 @@ sound_closed f outer s idle names scopes blocks = record {
   scopes = λ q p at scope none. subst (λ (l : List (List ℕ)). is_among p.name l ≡ true) scopes (s.scopes q p at scope none);
 }
 
-pub sound_finish : (f : Facts) (name : List ℕ) → AreSound f → f.steps ≡ [] → is_among name f.names ≡ false → is_promise_over f.promises (declared_promise name 3 false true) ≡ false → is_name name ≡ true → AreSound (with_finish f name)
-sound_finish f name s idle fresh room named =
+-- a line that declares a matrix
+pub sound_matrix : (shapes : List Shape) (f : Facts) (name : List ℕ) (rows cols : ℕ) → AreSound shapes f → f.steps ≡ [] → is_among name f.names ≡ false → 1 ≤ rows → AreSound shapes (with_matrix f name rows cols)
+sound_matrix shapes f name rows cols s idle fresh some = record {
+  promise_names = named_kept (map (λ (p : PlannedPromise). p.name) f.promises) f.names name s.promise_names;
+  node_names = named_kept (map (λ (node : Node). node.name) f.nodes ++ block_names f.blocks) f.names name s.node_names;
+  blocks = (tt, s.blocks);
+  promises = s.promises;
+  few = s.few;
+  total = s.total;
+  shown = s.shown;
+  ended = s.ended;
+  matrices = all_append (λ m. 1 ≤ m.shape.rows) f.matrices (named_shape name rows cols ∷ []) s.matrices (some, tt);
+  enclosed = s.enclosed;
+  task = idle_task shapes f.promises (length f.nodes);
+  lens = refl;
+  drops = refl;
+  drops_within = tt;
+  checks = tt;
+  unchecked = λ h. refl;
+  named = no_locals f.promises;
+  put = λ q v e. elim (s.put q v e) [
+    | inl old ↦ inl old
+    | inr open_one ↦ absurd (false≢true (subst (λ (l : List Step). IsAmong (promises_put l) q) idle open_one.1))
+  ];
+  scopes = s.scopes;
+}
+
+-- a row of the open matrix
+pub sound_row : (shapes : List Shape) (f : Facts) (begun : Option MatrixData) → AreSound shapes f → AreSound shapes (with_begun f begun)
+sound_row shapes f begun s = record {
+  promise_names = s.promise_names;
+  node_names = s.node_names;
+  blocks = s.blocks;
+  promises = s.promises;
+  few = s.few;
+  total = s.total;
+  shown = s.shown;
+  ended = s.ended;
+  matrices = s.matrices;
+  enclosed = s.enclosed;
+  task = s.task;
+  lens = s.lens;
+  drops = s.drops;
+  drops_within = s.drops_within;
+  checks = s.checks;
+  unchecked = s.unchecked;
+  named = s.named;
+  put = s.put;
+  scopes = s.scopes;
+}
+
+pub sound_finish : (shapes : List Shape) (f : Facts) (name : List ℕ) → AreSound shapes f → f.steps ≡ [] → is_among name f.names ≡ false → is_promise_over f.promises (declared_promise name 3 false true) ≡ false → is_name name ≡ true → AreSound shapes (with_finish f name)
+sound_finish shapes f name s idle fresh room named =
     let p : PlannedPromise = declared_promise name 3 false true in
     let blocks : List OpenBlock = ScopeBlock name f.count ∷ f.blocks in
     let own : IsOpenScope (f.promises ++ p ∷ []) name = record { named = named; at = length f.promises; own = p; there = slice_get_last f.promises p; is = refl; scope = refl; unput = refl; len = refl } in
-    let all : AllByRecursion (IsSoundBlock f.nodes (f.promises ++ p ∷ [])) blocks = (own, blocks_declared f p s) in
-    sound_closed (with_declared f p blocks) blocks (sound_declared f p blocks s (record {
+    let all : AllByRecursion (IsSoundBlock f.nodes (f.promises ++ p ∷ [])) blocks = (own, blocks_declared shapes f p s) in
+    sound_none shapes (with_declared f p blocks) blocks f.closed None (sound_declared shapes f p blocks s (record {
       fresh = fresh;
       room = room;
       named = named;
@@ -171,24 +231,43 @@ sound_finish f name s idle fresh room named =
     })) idle refl refl all
 
 -- the names of the nodes and the open blocks, where the innermost block becomes a node
-pub names_ended : (f : Facts) (node : Node) (outer : List OpenBlock) → AreSound f → block_names f.blocks ≡ node.name ∷ block_names outer → AreNamed (map (λ (n : Node). n.name) (f.nodes ++ node ∷ []) ++ block_names outer) f.names
-names_ended f node outer s opened =
+pub names_ended : (shapes : List Shape) (f : Facts) (node : Node) (outer : List OpenBlock) → AreSound shapes f → block_names f.blocks ≡ node.name ∷ block_names outer → AreNamed (map (λ (n : Node). n.name) (f.nodes ++ node ∷ []) ++ block_names outer) f.names
+names_ended shapes f node outer s opened =
     let names = map (λ (n : Node). n.name) f.nodes in
     subst (λ (l : List (List ℕ)). AreNamed l f.names)
     (ap (λ (l : List (List ℕ)). names ++ l) opened ∙ sym (append_assoc names (node.name ∷ []) (block_names outer)) ∙ ap (λ (l : List (List ℕ)). l ++ block_names outer) (sym (map-append (λ (n : Node). n.name) f.nodes (node ∷ []))))
     s.node_names
 
 -- what encloses each node, with one more
-pub enclosed_more : (f : Facts) (node : Node) → AreSound f → node.group ≡ group_in f.blocks → (v : ℕ) (n : Node) → slice_get (f.nodes ++ node ∷ []) v ≡ Some n → IsEnclosedBelow (f.nodes ++ node ∷ []) v n.group
-enclosed_more f node s group v n at = elim (slice_get_push_cases f.nodes node v n at) [
+pub enclosed_more : (shapes : List Shape) (f : Facts) (node : Node) → AreSound shapes f → node.group ≡ group_in f.blocks → (v : ℕ) (n : Node) → slice_get (f.nodes ++ node ∷ []) v ≡ Some n → IsEnclosedBelow (f.nodes ++ node ∷ []) v n.group
+enclosed_more shapes f node s group v n at = elim (slice_get_push_cases f.nodes node v n at) [
   | inl old ↦ enclosed_grown f.nodes (node ∷ []) v n.group (s.enclosed v n old)
   | inr new ↦
       let here : IsEnclosedBelow f.nodes (length f.nodes) node.group = subst (IsEnclosedBelow f.nodes (length f.nodes)) (sym group) (enclosed_next f.nodes f.promises f.blocks s.blocks) in
       enclosed_grown f.nodes (node ∷ []) v n.group (subst (λ (m : Node). IsEnclosedBelow f.nodes v m.group) new.1 (subst (λ (k : ℕ). IsEnclosedBelow f.nodes k node.group) (sym new.0) here))
 ]
 
-pub sound_end : (above : List Statement) (f : Facts) (name : List ℕ) (outer : List OpenBlock) → AreSound f → AreCounted above f → lets_here above ≤ 32 → checks_here above ≤ 16 → f.blocks ≡ TaskBlock name ∷ outer → AreSound (with_end f name outer)
-sound_end above f name outer s c few checks block =
+more_products : (b : Bool) (c : KeptCheck) (checks : List KeptCheck) → (has_product checks ≡ true → 1 ≤ length (product_checks checks)) → (b || has_product checks) ≡ true → 1 ≤ length (cond b (c ∷ product_checks checks) (product_checks checks))
+more_products true c checks rest e = omega arith
+more_products false c checks rest e = rest e
+
+-- where one of the checks is that of a product, there is one at least
+some_product : (checks : List KeptCheck) → has_product checks ≡ true → 1 ≤ length (product_checks checks)
+some_product [] e = absurd (false≢true e)
+some_product (c ∷ checks) e = more_products (is_product c.spec) c checks (some_product checks) e
+
+-- the `end` of a task with correction comes below a check of a product
+corrected_end : (f : Facts) → ends_uncorrected f text.End ≡ false → is_corrected f.scheme ≡ true → has_product f.checks ≡ true
+unfolding facets
+corrected_end f e corrected = step (is_corrected f.scheme) (has_product f.checks) corrected e
+  where
+    step : (a b : Bool) → a ≡ true → (a && not b) ≡ false → b ≡ true
+    step true true h g = refl
+    step true false h g = absurd (true≢false g)
+    step false b h g = absurd (false≢true h)
+
+pub sound_end : (shapes : List Shape) (above : List Statement) (f : Facts) (name : List ℕ) (outer : List OpenBlock) → AreSound shapes f → AreCounted above f → lets_here above ≤ 32 → checks_here above ≤ 16 → ends_uncorrected f text.End ≡ false → f.blocks ≡ TaskBlock name ∷ outer → AreSound shapes (with_end f name outer)
+sound_end shapes above f name outer s c few checks ends block =
     let n : Node = ended_task f name outer in
     let inner : AllByRecursion (IsSoundBlock f.nodes f.promises) (TaskBlock name ∷ outer) = subst (AllByRecursion (IsSoundBlock f.nodes f.promises)) block s.blocks in
     let inputs : length f.inputs ≤ 16 = c.inputs in
@@ -196,7 +275,7 @@ sound_end above f name outer s c few checks block =
     let mapped : length (lens_of f.locals) ≡ length f.locals = simp length-map in
     let checked : length f.checks ≤ checks_here above = c.checks in
     let few_locals : length (lens_of f.locals) ≤ 48 = omega arith in
-    let ended : IsTaskNode f.promises (length f.nodes) n = record {
+    let ended : IsTaskNode shapes f.promises (length f.nodes) n = record {
       name = inner.0;
       is = refl;
       few = inputs;
@@ -209,10 +288,14 @@ sound_end above f name outer s c few checks block =
       checks = s.checks;
       planned = c.scheme;
       unchecked = s.unchecked;
+      corrected = λ scheme.
+          let one = c.one_product scheme in
+          let some = some_product f.checks (corrected_end f ends scheme) in
+          omega arith;
     } in
     record {
       promise_names = s.promise_names;
-      node_names = names_ended f n outer s (ap block_names block);
+      node_names = names_ended shapes f n outer s (ap block_names block);
       blocks = blocks_grown f.nodes (n ∷ []) f.promises outer inner.1;
       promises = s.promises;
       few = s.few;
@@ -220,10 +303,11 @@ sound_end above f name outer s c few checks block =
       shown = s.shown;
       ended = λ v node at. elim (slice_get_push_cases f.nodes n v node at) [
         | inl old ↦ s.ended v node old
-        | inr new ↦ subst (λ (m : Node). IsSoundNode f.promises v m) new.1 (subst (λ (k : ℕ). IsSoundNode f.promises k n) (sym new.0) (a_task ended))
+        | inr new ↦ subst (λ (m : Node). IsSoundNode shapes f.promises v m) new.1 (subst (λ (k : ℕ). IsSoundNode shapes f.promises k n) (sym new.0) (a_task ended))
       ];
-      enclosed = enclosed_more f n s (ap group_in (sym block));
-      task = idle_task f.promises (length (f.nodes ++ n ∷ []));
+      matrices = s.matrices;
+      enclosed = enclosed_more shapes f n s (ap group_in (sym block));
+      task = idle_task shapes f.promises (length (f.nodes ++ n ∷ []));
       lens = refl;
       drops = refl;
       drops_within = tt;
@@ -237,5 +321,8 @@ sound_end above f name outer s c few checks block =
       scopes = λ q p at scope none. subst (λ (l : List (List ℕ)). is_among p.name l ≡ true) (ap scope_names block) (s.scopes q p at scope none);
     }
 
-pub sound_end_group : (f : Facts) (number : ℕ) (outer : List OpenBlock) → AreSound f → f.steps ≡ [] → f.blocks ≡ GroupBlock number ∷ outer → AreSound (with_closed f outer)
-sound_end_group f number outer s idle block = sound_closed f outer s idle (ap block_names block) (ap scope_names block) (subst (AllByRecursion (IsSoundBlock f.nodes f.promises)) block s.blocks).1
+pub sound_end_matrix : (shapes : List Shape) (f : Facts) (outer : List OpenBlock) → AreSound shapes f → f.steps ≡ [] → f.blocks ≡ MatrixBlock ∷ outer → AreSound shapes (with_closed f outer)
+sound_end_matrix shapes f outer s idle block = sound_none shapes f outer _ None s idle (ap block_names block) (ap scope_names block) (subst (AllByRecursion (IsSoundBlock f.nodes f.promises)) block s.blocks).1
+
+pub sound_end_group : (shapes : List Shape) (f : Facts) (number : ℕ) (outer : List OpenBlock) → AreSound shapes f → f.steps ≡ [] → f.blocks ≡ GroupBlock number ∷ outer → AreSound shapes (with_closed f outer)
+sound_end_group shapes f number outer s idle block = sound_none shapes f outer _ None s idle (ap block_names block) (ap scope_names block) (subst (AllByRecursion (IsSoundBlock f.nodes f.promises)) block s.blocks).1

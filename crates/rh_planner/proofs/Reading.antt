@@ -5,9 +5,10 @@ use Rattle.std.specs.Prelude.{is_some, nat_lt}
 use Rattle.std.proofs.lemmas.Bool.{false≢true, true≢false}
 use Rattle.rh_task_text.specs.declared.statement.Statement.{Statement}
 use Rattle.rh_rules.specs.Tables.{LocalName, if_any, is_in, place_of, is_local, number_of}
+use Rattle.rh_rules.specs.declared.shape.NamedShape.{NamedShape}
 use Rattle.rh_rules.specs.Facets.{facets}
 use Rattle.rh_rules.specs.Rules.{is_among_first}
-use Rattle.rh_planner.specs.Making.{reads_unknown, reads_dropped, numbers_read}
+use Rattle.rh_planner.specs.Making.{reads_unknown, reads_dropped, numbers_read, names_no_matrix}
 use Rattle.rh_planner.proofs.Using.{not_false, neither, dropped_all}
 
 first_there : (o : Option ℕ) (n : ℕ) → if_any (λ i. nat_lt i n) o ≡ true → is_some o ≡ true
@@ -21,5 +22,5 @@ all_there n ls (x ∷ xs) e =
     ap (λ (b : Bool). not b || list_any (λ x. not (is_local ls x)) xs) (first_there (place_of x ls) n (not_false (is_among_first n ls x) first)) ∙ all_there n ls xs rest
 
 -- where all awaits are there, the dropped ones are those of dropped numbers
-pub reads_dropped_numbers : (n : ℕ) (ls : List LocalName) (drops : List ℕ) (s : Statement) → reads_unknown n ls s ≡ false → reads_dropped ls drops s ≡ list_any (λ i. is_in i drops) (numbers_read ls s)
-reads_dropped_numbers n ls drops s e = dropped_all ls drops (facets s).inputs (all_there n ls (facets s).inputs e)
+pub reads_dropped_numbers : (ms : List NamedShape) (n : ℕ) (ls : List LocalName) (drops : List ℕ) (s : Statement) → (reads_unknown n ls s || names_no_matrix ms s) ≡ false → reads_dropped ls drops s ≡ list_any (λ i. is_in i drops) (numbers_read ls s)
+reads_dropped_numbers ms n ls drops s e = dropped_all ls drops (facets s).inputs (all_there n ls (facets s).inputs (neither (reads_unknown n ls s) (names_no_matrix ms s) e).0)

@@ -1,29 +1,31 @@
 -- Each line of a lawful text may be planned where those above it were.
-use Rattle.std.proofs.Common.{◌≡◌, ℕ, ◌+◌, ◌<◌, ◌≤◌, List, [], ◌∷◌, ◌++◌, arith, length, get_or, take, drop, map, sym, ap, ◌∙◌, subst}
+use Rattle.std.proofs.Common.{◌≡◌, ℕ, ◌+◌, ◌<◌, ◌≤◌, List, [], ◌∷◌, ◌++◌, Option, Some, None, refl, append-nil, arith, length, get_or, take, drop, map, sym, ap, ◌∙◌, subst}
 use Rattle.std.specs.List.{AllByRecursion, IsDistinct}
 use Rattle.std.specs.Str.{bytes_eq}
 use Rattle.rh_task_text.specs.declared.statement.Statement.{Statement}
+use Rattle.rh_task_text.specs.declared.statement.Statement.TheVariants as text
 use Rattle.rh_task_text.specs.declared.statement.Item.{Item}
-use Rattle.rh_task_text.specs.Blocks.{lets_here, open_blocks, innermost, may_stand}
-use Rattle.rh_task_text.specs.Program.{ProgramText, IsLawfulText, AllStand, upward, IsLawful}
+use Rattle.rh_task_text.specs.Blocks.{lets_here, open_blocks, innermost, rows_here}
+use Rattle.rh_task_text.specs.Limits.{columns_here}
+use Rattle.rh_task_text.proofs.CountsOfLines.{rows_small}
+use Rattle.rh_sparse.specs.Matrix.{MatrixData, IsRow}
+use Rattle.rh_rules.specs.declared.shape.Shape.{Shape}
+use Rattle.rh_rules.specs.Facets.{cells_of}
+use Rattle.rh_task_text.specs.Program.{ProgramText, IsLawfulText, AllStand, upward}
 use Rattle.rh_rules.specs.declared.block.OpenBlock.{OpenBlock}
 use Rattle.rh_rules.specs.declared.block.OpenBlock.TheVariants.{TaskBlock, MatrixBlock, GroupBlock, ScopeBlock}
 use Rattle.rh_rules.specs.declared.node.PlannedPromise.{PlannedPromise}
-use Rattle.rh_rules.specs.Above.{Facts, facts_above}
+use Rattle.rh_rules.specs.Above.{Facts, facts_above, matrices_above}
 use Rattle.rh_task_text.specs.declared.form.Block.{Block}
-use Rattle.rh_task_text.specs.declared.form.Standing.TheVariants.{Outside}
-use Rattle.rh_task_text.specs.declared.statement.SchemeText.{SchemeText}
-use Rattle.rh_task_text.specs.declared.statement.SchemeText.TheVariants.{Plain, Replicate, Replay, Abft}
-use Rattle.rh_task_text.specs.Forms.{form}
-use Rattle.rh_task_text.specs.Statements.{kind_of}
 use Rattle.rh_check.specs.Users.{HandedChecks, ArePaired}
 use Rattle.rh_rules.specs.Rules.{AllKeep}
 use Rattle.rh_rules.specs.Limits.{IsWithinLimits}
 use Rattle.rh_planner.specs.declared.planner.Planner.{Planner}
 use Rattle.rh_planner.specs.Planned.{look_above}
-use Rattle.rh_planner.specs.States.{HasFacts, HasRoom, IsClosable}
-use Rattle.rh_planner.specs.Sound.{nodes_open}
-use Rattle.rh_planner.proofs.Grammar.{within}
+use Rattle.rh_planner.specs.States.{HasFacts, HasRoom, IsClosable, TakesRow}
+use Rattle.rh_planner.specs.Sound.{nodes_open, shapes_named, IsOpenMatrix, AreShaped}
+use Rattle.rh_planner.proofs.OpenBlocks.{in_matrix}
+use Rattle.rh_planner.proofs.Grammar.{within, limits_kept, row_limits, row_lawful, columns_small, columns_below}
 use Rattle.rh_planner.proofs.Wholes.{upward_append, split_at}
 use Rattle.rh_planner.proofs.Counting.{counted}
 use Rattle.rh_planner.proofs.SoundFacts.{AreSound, IsSoundBlock}
@@ -49,7 +51,9 @@ room_at handed above p stand kept lets has =
     let same : length p.task.locals.items ≡ length (facts_above (look_above handed) above).locals = ap length has.locals in
     let inputs : length (facts_above (look_above handed) above).inputs ≤ 16 = c.inputs in
     let locals : length (facts_above (look_above handed) above).locals ≤ length (facts_above (look_above handed) above).inputs + lets_here above = c.locals in
-    record { nodes = omega arith; locals = omega arith }
+    let named : length p.matrices.items ≡ length (facts_above (look_above handed) above).matrices = ap length has.matrices in
+    let matrices : length (facts_above (look_above handed) above).matrices ≤ 256 = c.few_matrices in
+    record { nodes = omega arith; locals = omega arith; matrices = omega arith }
 
 -- the innermost open block may be closed
 closable : (f : Facts) (bs : List OpenBlock) → IsDistinct bytes_eq (map (λ (p : PlannedPromise). p.name) f.promises) → AllByRecursion (IsSoundBlock f.nodes f.promises) bs → IsClosable f.promises bs
@@ -62,9 +66,33 @@ closable f (ScopeBlock name first ∷ bs) distinct all = (own_there f.promises n
 pub closable_at : (handed : HandedChecks) → ArePaired handed → (above : List Statement) (p : Planner) → AllStand above → AllKeep (look_above handed) above → HasFacts p (facts_above (look_above handed) above) → IsClosable p.declared.promises p.blocks
 closable_at handed paired above p stand kept has =
     let f : Facts = facts_above (look_above handed) above in
-    let s : AreSound f = sound_facts handed paired above stand kept in
+    let shapes : List Shape = shapes_named (matrices_above above) in
+    let s : AreSound shapes f = sound_facts shapes [] handed paired above (sym (append-nil shapes)) stand kept in
     subst (λ (ps : List PlannedPromise). IsClosable ps p.blocks) (sym has.promises)
     (subst (IsClosable f.promises) (sym has.blocks) (closable f f.blocks s.promise_names.once s.blocks))
 
 pub within_at : (above : List Statement) (s : Statement) → AllStand (s ∷ above) → IsWithinLimits s
 within_at above s stand = within above s stand.0
+
+-- what a row needs is needed of no other statement
+takes : (begun : Option MatrixData) (s : Statement) → ((columns values : List ℕ) → s ≡ text.Row columns values → TakesRow begun (text.Row columns values)) → TakesRow begun s
+takes begun (text.Row columns values) row = row columns values refl
+takes None s row = tt
+takes (Some a) s row = tt
+
+row_taken : (handed : HandedChecks) (above : List Statement) (columns values : List ℕ) (p : Planner) → AllStand (text.Row columns values ∷ above) → AllKeep (look_above handed) above → HasFacts p (facts_above (look_above handed) above) → TakesRow p.begun (text.Row columns values)
+row_taken handed above columns values p stand kept has =
+    let f : Facts = facts_above (look_above handed) above in
+    let c = counted handed above stand.1 kept in
+    let block = in_matrix (open_blocks above) f.blocks c.blocks stand.0.placed.0 in
+    let begun : IsOpenMatrix block.rows block.cols (rows_here above) f = subst (λ (bs : List Block). AreShaped (innermost bs) (rows_here above) f) block.opens c.shaped in
+    let cols : columns_here (innermost (open_blocks above)) ≡ begun.matrix.cols = ap (λ (bs : List Block). columns_here (innermost bs)) block.opens ∙ sym begun.columns in
+    let limits = row_limits (columns_here (innermost (open_blocks above))) columns values (limits_kept above (text.Row columns values) stand.0.limited) in
+    let row = row_lawful (columns_here (innermost (open_blocks above))) columns values stand.0.whole limits in
+    let counted_rows : length begun.matrix.rows ≡ rows_here above = begun.counted in
+    let most : rows_here above + 1 ≤ 4096 = rows_small (text.Row columns values ∷ above) stand in
+    subst (λ (o : Option MatrixData). TakesRow o (text.Row columns values)) (sym (has.begun ∙ begun.here)) (subst (λ (n : ℕ). IsRow n (cells_of columns values)) cols row, omega arith, columns_below (columns_here (innermost (open_blocks above))) 4096 columns (columns_small above stand.1) limits.below)
+
+-- the open matrix takes the row that comes next
+pub takes_row : (handed : HandedChecks) (above : List Statement) (s : Statement) (p : Planner) → AllStand (s ∷ above) → AllKeep (look_above handed) above → HasFacts p (facts_above (look_above handed) above) → TakesRow p.begun s
+takes_row handed above s p stand kept has = takes p.begun s (λ columns values is. row_taken handed above columns values p (subst (λ (t : Statement). AllStand (t ∷ above)) is stand) kept has)

@@ -7,6 +7,7 @@ use Rattle.std.proofs.lemmas.Bool.{false≢true, true≢false, or_left, or_right
 use Rattle.std.proofs.lemmas.Option.{none-some, same_Some}
 use Rattle.std.proofs.lemmas.List.{length-map}
 use Rattle.std.proofs.lemmas.Map.Keys.{IsDistinct-head, IsDistinct-tail}
+use Rattle.rh_rules.specs.declared.shape.Shape.{Shape}
 use Rattle.rh_rules.specs.declared.block.OpenBlock.{OpenBlock}
 use Rattle.rh_rules.specs.declared.block.OpenBlock.TheVariants.{TaskBlock, MatrixBlock, GroupBlock, ScopeBlock}
 use Rattle.rh_rules.specs.declared.body.Step.{Step}
@@ -18,10 +19,10 @@ use Rattle.rh_rules.specs.Lawful.{promise_lens, IsAmong}
 use Rattle.rh_rules.specs.Above.{Facts, group_in, scope_node}
 use Rattle.rh_planner.proofs.After.{ended_scope, with_scope_end}
 use Rattle.rh_planner.proofs.FirstPlaces.{is_some_position}
-use Rattle.rh_planner.proofs.DeclaredPromises.{IsDeclaredAs, declared, same_name, name_is, one_place, scope_at}
+use Rattle.rh_planner.proofs.DeclaredPromises.{IsDeclaredAs, declared, same_name, name_is, one_place, scope_at, slice_get_append}
 use Rattle.rh_planner.proofs.PutPromises.{stays_given, all_given, put_grows, put_new, put_split, given_other, unput_given, unput_apart}
 use Rattle.rh_planner.proofs.SoundTasks.{some_and, some_is}
-use Rattle.rh_planner.proofs.SoundFacts.{AreNamed, AreSound, IsSoundPromise, IsSoundNode, a_scope, IsScopeNode, IsSoundBlock, IsOpenScope, block_names, scope_names, node_grown, blocks_grown, blocks_kept, idle_task, among_last, slice_get_append, slice_get_last, slice_get_push_cases}
+use Rattle.rh_planner.proofs.SoundFacts.{AreNamed, AreSound, IsSoundPromise, IsSoundNode, a_scope, IsScopeNode, IsSoundBlock, IsOpenScope, block_names, scope_names, node_grown, blocks_grown, blocks_kept, idle_task, among_last, slice_get_last, slice_get_push_cases}
 use Rattle.rh_planner.proofs.LocalNames.{no_locals}
 use Rattle.rh_planner.proofs.PromiseLines.{names_ended, enclosed_more}
 
@@ -80,8 +81,8 @@ record IsEnding (f : Facts) (name : List ℕ) (first : ℕ) (outer : List OpenBl
   rest : AllByRecursion (IsSoundBlock f.nodes f.promises) outer
   apart : (n : List ℕ) → is_among n (scope_names outer) ≡ true → bytes_eq name n ≡ false
 
-ending : (f : Facts) (name : List ℕ) (first : ℕ) (outer : List OpenBlock) → AreSound f → f.blocks ≡ ScopeBlock name first ∷ outer → IsEnding f name first outer
-ending f name first outer s block =
+ending : (shapes : List Shape) (f : Facts) (name : List ℕ) (first : ℕ) (outer : List OpenBlock) → AreSound shapes f → f.blocks ≡ ScopeBlock name first ∷ outer → IsEnding f name first outer
+ending shapes f name first outer s block =
     let inner : AllByRecursion (IsSoundBlock f.nodes f.promises) (ScopeBlock name first ∷ outer) = subst (AllByRecursion (IsSoundBlock f.nodes f.promises)) block s.blocks in
     let names = map (λ (n : Node). n.name) f.nodes in
     let distinct : IsDistinct bytes_eq (names ++ name ∷ block_names outer) = subst (λ (l : List (List ℕ)). IsDistinct bytes_eq (names ++ l)) (ap block_names block) s.node_names.once in
@@ -109,31 +110,32 @@ scope_ended f name first outer counted e =
       len = ap (λ (l : List ℕ). slice_index l own) lens ∙ e.number.declared.long ∙ o.len;
     }
 
-pub sound_end_scope : (f : Facts) (name : List ℕ) (first : ℕ) (outer : List OpenBlock) → AreSound f → f.count ≡ length f.nodes → f.steps ≡ [] → f.blocks ≡ ScopeBlock name first ∷ outer → AreSound (with_scope_end f name first outer)
-sound_end_scope f name first outer s counted idle block =
+pub sound_end_scope : (shapes : List Shape) (f : Facts) (name : List ℕ) (first : ℕ) (outer : List OpenBlock) → AreSound shapes f → f.count ≡ length f.nodes → f.steps ≡ [] → f.blocks ≡ ScopeBlock name first ∷ outer → AreSound shapes (with_scope_end f name first outer)
+sound_end_scope shapes f name first outer s counted idle block =
     let ps : List PlannedPromise = f.promises in
     let t : Putting = putting name f.count in
     let qs : List PlannedPromise = map (given t) ps in
     let n : Node = ended_scope f name first outer in
     let own : ℕ = promise_number ps name in
-    let e = ending f name first outer s block in
+    let e = ending shapes f name first outer s block in
     let grows = put_grows t ps in
     let names : map (λ (x : PlannedPromise). x.name) qs ≡ map (λ (x : PlannedPromise). x.name) ps = stays_given (λ x. x.name) (λ x o. refl) t ps in
     let lens : promise_lens qs ≡ promise_lens ps = stays_given (λ x. x.len) (λ x o. refl) t ps in
     record {
       promise_names = subst (λ (l : List (List ℕ)). AreNamed l f.names) (sym names) s.promise_names;
-      node_names = names_ended f n outer s (ap block_names block);
+      node_names = names_ended shapes f n outer s (ap block_names block);
       blocks = blocks_kept (f.nodes ++ n ∷ []) ps qs outer (λ i x at among scope. given_other t ps i x at (e.apart x.name among)) (blocks_grown f.nodes (n ∷ []) ps outer e.rest);
       promises = all_given IsSoundPromise (λ x o h. record { name = h.name; len = h.len }) t ps s.promises;
       few = let h : length qs ≡ length ps = simp length-map in rw h s.few;
       total = subst (λ (k : ℕ). k ≤ 16777216) (ap sum (sym lens)) s.total;
       shown = subst (λ (k : ℕ). k ≤ 1048576) (ap sum (sym (stays_given shown_by (λ x o. refl) t ps))) s.shown;
       ended = λ v node at. elim (slice_get_push_cases f.nodes n v node at) [
-        | inl old ↦ node_grown ps qs v node grows (s.ended v node old)
-        | inr new ↦ subst (λ (m : Node). IsSoundNode qs v m) new.1 (subst (λ (k : ℕ). IsSoundNode qs k n) (sym new.0) (a_scope (scope_ended f name first outer counted e)))
+        | inl old ↦ node_grown shapes ps qs v node grows (s.ended v node old)
+        | inr new ↦ subst (λ (m : Node). IsSoundNode shapes qs v m) new.1 (subst (λ (k : ℕ). IsSoundNode shapes qs k n) (sym new.0) (a_scope (scope_ended f name first outer counted e)))
       ];
-      enclosed = enclosed_more f n s (ap group_in (sym block));
-      task = idle_task qs (length (f.nodes ++ n ∷ []));
+      matrices = s.matrices;
+      enclosed = enclosed_more shapes f n s (ap group_in (sym block));
+      task = idle_task shapes qs (length (f.nodes ++ n ∷ []));
       lens = refl;
       drops = refl;
       drops_within = tt;

@@ -1,6 +1,6 @@
 -- A check that keeps the rules reads a put of its task and awaits that are there, and its handed-in check is kept.
-use Rattle.std.proofs.Common.{◌≡◌, ℕ, ◌<◌, ◌≤◌, List, [], ◌∷◌, ◌++◌, Bool, true, false, not, Option, Some, None, length, map, take, drop, slice_index, ◌||◌, unwrap_or, refl, arith, ap, sym, ◌∙◌, subst, ◌*◌, ◌==◌, ◌&&◌, length-append}
-use Rattle.std.specs.Prelude.{is_some, IsSomeAnd, slice_get, option_and_then, nat_eq, nat_lt}
+use Rattle.std.proofs.Common.{◌≡◌, ℕ, ◌<◌, ◌≤◌, List, [], ◌∷◌, ◌++◌, Bool, true, false, not, Option, Some, None, length, map, take, drop, slice_index, ◌||◌, unwrap_or, refl, arith, ap, sym, ◌∙◌, subst, ◌*◌, ◌==◌, length-append}
+use Rattle.std.specs.Prelude.{is_some, IsSomeAnd, slice_get, nat_eq, nat_lt}
 use Rattle.std.specs.List.{AllByRecursion, list_any}
 use Rattle.std.specs.Str.{bytes_eq}
 use Rattle.std.proofs.lemmas.Bool.{false≢true, and_parts, eqb-true}
@@ -9,30 +9,28 @@ use Rattle.std.proofs.lemmas.Option.{none-some, slice_get-get_or}
 use Rattle.std.proofs.lemmas.List.{length-map, get_or_append_left}
 use Rattle.std.proofs.lemmas.List.Quantifiers.{position-Some}
 use Rattle.std.proofs.Math.Seq.{take-append_seam}
-use Rattle.rh_check.specs.declared.spec.Term.{Term}
-use Rattle.rh_check.specs.declared.spec.UserSpec.{UserSpec}
 use Rattle.rh_check.specs.declared.spec.UserSpec.TheVariants as users
 use Rattle.rh_check.specs.Users.{HandedChecks, ArePaired, user_place}
 use Rattle.rh_task_text.specs.declared.statement.Statement.{Statement}
 use Rattle.rh_task_text.specs.declared.statement.Statement.TheVariants as text
+use Rattle.rh_rules.specs.declared.shape.Shape.{Shape}
 use Rattle.rh_rules.specs.Kept.{KeptCheck}
-use Rattle.rh_rules.specs.Tables.{LocalName, if_any, place_of, is_in, is_promise, number_of, lens_of, promise_number}
+use Rattle.rh_rules.specs.Tables.{LocalName, if_any, place_of, is_in, is_promise, number_of, lens_of, promise_number, is_matrix, matrix_number, matrix_shape}
 use Rattle.rh_rules.specs.Facets.{facets, are_sides, terms_of, no_terms, sixteen_terms}
 use Rattle.rh_rules.specs.Limits.{IsWithinLimits}
 use Rattle.rh_rules.specs.declared.node.PlannedPromise.{PlannedPromise}
 use Rattle.rh_rules.specs.Bodies.{HasWords, AreHalos, lens_at, promises_put}
 use Rattle.rh_rules.specs.Lawful.{promise_lens, putter_of, IsAmong, IsFittingSpec}
-use Rattle.rh_rules.specs.Above.{Facts, check_of, spec_asked, lens_read}
+use Rattle.rh_rules.specs.Above.{Facts, check_of, spec_asked, shape_used, lens_read}
 use Rattle.rh_rules.specs.Rules.{is_put_here, is_among_first, is_await, is_unanswered}
 use Rattle.rh_planner.proofs.Using.{neither, not_false}
-use Rattle.rh_planner.proofs.DeclaredPromises.{some_of}
-use Rattle.rh_planner.proofs.SoundTasks.{IsShort, Grows, putter_within, inputs_grown}
-use Rattle.rh_planner.proofs.SoundLets.{short_at, sides_fit}
+use Rattle.rh_planner.proofs.SoundTasks.{IsShort, Grows, putter_within, inputs_grown, some_is}
+use Rattle.rh_planner.proofs.SoundLets.{short_at, sides_fit, AreFirstShapes, matrix_there}
 
 -- the check judges one of these puts and reads some of these awaits, by their lengths
-pub record IsSoundCheck (ps : List PlannedPromise) (inputs puts : List ℕ) (check : KeptCheck) : Type 0 where
+pub record IsSoundCheck (shapes : List Shape) (ps : List PlannedPromise) (inputs puts : List ℕ) (check : KeptCheck) : Type 0 where
   pub put : IsAmong puts check.promise
-  pub fits : IsFittingSpec [] (lens_at (promise_lens ps) inputs) (slice_index (promise_lens ps) check.promise) check.user check.spec
+  pub fits : IsFittingSpec shapes (lens_at (promise_lens ps) inputs) (slice_index (promise_lens ps) check.promise) check.user check.spec
 
 -- what holds of all holds of one of them
 among_has : (P : ℕ → Type 0) (xs : List ℕ) (y : ℕ) → AllByRecursion P xs → IsAmong xs y → P y
@@ -44,16 +42,16 @@ among_has P (x ∷ xs) y all there = step (nat_eq x y) refl there (among_has P x
     step false other there rest = rest there
 
 -- a check of a put and awaits that are there stays sound when promises are declared and put
-pub check_grown : (ps qs : List PlannedPromise) (v : ℕ) (inputs puts : List ℕ) (c : KeptCheck) → Grows ps qs → AllByRecursion (λ q. IsSomeAnd (putter_of ps q) (λ u. u < v)) inputs → AllByRecursion (λ q. putter_of ps q ≡ Some v) puts
-    → IsSoundCheck ps inputs puts c → IsSoundCheck qs inputs puts c
-check_grown ps qs v inputs puts c grows awaited own sound =
+pub check_grown : (shapes : List Shape) (ps qs : List PlannedPromise) (v : ℕ) (inputs puts : List ℕ) (c : KeptCheck) → Grows ps qs → AllByRecursion (λ q. IsSomeAnd (putter_of ps q) (λ u. u < v)) inputs → AllByRecursion (λ q. putter_of ps q ≡ Some v) puts
+    → IsSoundCheck shapes ps inputs puts c → IsSoundCheck shapes qs inputs puts c
+check_grown shapes ps qs v inputs puts c grows awaited own sound =
     let (more, lens) = grows.lens in
     let there : c.promise < length (promise_lens ps) = putter_within ps c.promise v (among_has (λ q. putter_of ps q ≡ Some v) puts c.promise own sound.put) in
     let one : slice_index (promise_lens qs) c.promise ≡ slice_index (promise_lens ps) c.promise = ap (λ (l : List ℕ). slice_index l c.promise) lens ∙ get_or_append_left (promise_lens ps) more 0 c.promise there in
-    let by_put = subst (λ (n : ℕ). IsFittingSpec [] (lens_at (promise_lens ps) inputs) n c.user c.spec) (sym one) sound.fits in
+    let by_put = subst (λ (n : ℕ). IsFittingSpec shapes (lens_at (promise_lens ps) inputs) n c.user c.spec) (sym one) sound.fits in
     record {
       put = sound.put;
-      fits = subst (λ (l : List ℕ). IsFittingSpec [] l (slice_index (promise_lens qs) c.promise) c.user c.spec) (sym (inputs_grown ps qs v inputs grows awaited)) by_put;
+      fits = subst (λ (l : List ℕ). IsFittingSpec shapes l (slice_index (promise_lens qs) c.promise) c.user c.spec) (sym (inputs_grown ps qs v inputs grows awaited)) by_put;
     }
 
 equal : (a b : ℕ) → (a == b) ≡ true → a ≡ b
@@ -109,15 +107,15 @@ awaits_words lens more n ls (x ∷ xs) is long short e =
     let (first, rest) = neither (not (is_among_first n ls x)) (list_any (λ q. not (is_among_first n ls q)) xs) e in
     (await_words lens more n ls x is long short (not_false (is_among_first n ls x) first), awaits_words lens more n ls xs is long short rest)
 
-pub check_sound : (handed : HandedChecks) (f : Facts) (s : Statement) (q : List ℕ) → ArePaired handed → IsWithinLimits s → (facets s).built ≡ true → (facets s).checked ≡ Some q
+pub check_sound : (shapes : List Shape) (handed : HandedChecks) (f : Facts) (s : Statement) (q : List ℕ) → ArePaired handed → AreFirstShapes shapes f.matrices → if_any (λ a. not (is_matrix f.matrices a)) (facets s).matrix ≡ false → IsWithinLimits s → (facets s).checked ≡ Some q
     → is_put_here f q ≡ true → list_any (λ x. not (is_await f x)) (facets s).inputs ≡ false → is_unanswered handed s ≡ false
     → (lens more : List ℕ) → lens ≡ lens_at (promise_lens f.promises) f.inputs → lens_of f.locals ≡ lens ++ more → AllByRecursion IsShort (lens_of f.locals)
-    → (facets s).suits (slice_index (promise_lens f.promises) (promise_number f.promises q)) (lens_read f.locals s) ≡ true
-    → IsSoundCheck f.promises f.inputs (promises_put f.steps) (check_of handed (promise_number f.promises q) (spec_asked handed f.locals s))
+    → (facets s).suits (shape_used f.matrices s) (slice_index (promise_lens f.promises) (promise_number f.promises q)) (lens_read f.locals s) ≡ true
+    → IsSoundCheck shapes f.promises f.inputs (promises_put f.steps) (check_of handed (promise_number f.promises q) (spec_asked handed f.matrices f.locals s))
 unfolding facets
-check_sound handed f (text.CheckRange promise lo hi) q paired within built e put read asked lens more is all short suits = record { put = (and_parts (is_promise f.promises q) (is_in (promise_number f.promises q) (promises_put f.steps)) put).1; fits = tt }
-check_sound handed f (text.CheckTotal promise total) q paired within built e put read asked lens more is all short suits = record { put = (and_parts (is_promise f.promises q) (is_in (promise_number f.promises q) (promises_put f.steps)) put).1; fits = tt }
-check_sound handed f (text.CheckLinear promise base inputs factors) q paired within built e put read asked lens more is all short suits =
+check_sound shapes handed f (text.CheckRange promise lo hi) q paired first named within e put read asked lens more is all short suits = record { put = (and_parts (is_promise f.promises q) (is_in (promise_number f.promises q) (promises_put f.steps)) put).1; fits = tt }
+check_sound shapes handed f (text.CheckTotal promise total) q paired first named within e put read asked lens more is all short suits = record { put = (and_parts (is_promise f.promises q) (is_in (promise_number f.promises q) (promises_put f.steps)) put).1; fits = tt }
+check_sound shapes handed f (text.CheckLinear promise base inputs factors) q paired first named within e put read asked lens more is all short suits =
     let ns : List ℕ = map (number_of f.locals) inputs in
     let many : length ns ≡ length inputs = length-map inputs (number_of f.locals) in
     let few : length inputs ≤ 16 = within.0 in
@@ -131,7 +129,7 @@ check_sound handed f (text.CheckLinear promise base inputs factors) q paired wit
             (subst (AllByRecursion (λ t. t.input < length f.inputs)) (sym (first_terms ns factors (omega arith))) terms),
       );
     }
-check_sound handed f (text.CheckConserve promise l m r k s) q paired within built e put read asked lens more is all short suits =
+check_sound shapes handed f (text.CheckConserve promise l m r k s) q paired first named within e put read asked lens more is all short suits =
     let ls = f.locals in
     let long : length f.inputs ≡ length lens = sym (length-map f.inputs (λ i. slice_index (promise_lens f.promises) i)) ∙ ap length (sym is) in
     let words = awaits_words lens more (length f.inputs) ls (l ∷ m ∷ r ∷ []) all long short read in
@@ -141,7 +139,7 @@ check_sound handed f (text.CheckConserve promise l m r k s) q paired within buil
       fits = subst (λ (ns : List ℕ). HasWords ns (number_of ls l) × HasWords ns (number_of ls m) × HasWords ns (number_of ls r) × (s ≤ 63) × (slice_index (promise_lens f.promises) (promise_number f.promises q) ≡ slice_index ns (number_of ls m))) is
           (words.0, words.1.0, words.1.1.0, within, same ∙ await_len lens (lens_of ls) more (number_of ls m) all words.1.0.0);
     }
-check_sound handed f (text.CheckConserve2 promise north south west east m cols k s) q paired within built e put read asked lens more is all short suits =
+check_sound shapes handed f (text.CheckConserve2 promise north south west east m cols k s) q paired first named within e put read asked lens more is all short suits =
     let ls = f.locals in
     let long : length f.inputs ≡ length lens = sym (length-map f.inputs (λ i. slice_index (promise_lens f.promises) i)) ∙ ap length (sym is) in
     let words = awaits_words lens more (length f.inputs) ls (north ∷ south ∷ west ∷ east ∷ m ∷ []) all long short read in
@@ -168,9 +166,21 @@ check_sound handed f (text.CheckConserve2 promise north south west east m cols k
       fits = subst (λ (ns : List ℕ). AreHalos ns (number_of ls north) (number_of ls south) (number_of ls west) (number_of ls east) (number_of ls m) cols × (s ≤ 63) × (n ≡ slice_index ns (number_of ls m))) is
           (halos, within.1, equal n (slice_index (lens_of ls) (number_of ls m)) as_long ∙ is_m);
     }
-check_sound handed f (text.CheckProduct promise a x) q paired within built e put read asked lens more is all short suits = cc
-check_sound handed f (text.CheckUser promise check) q paired within built e put read asked lens more is all short suits = record {
+check_sound shapes handed f (text.CheckProduct promise a x) q paired first named within e put read asked lens more is all short suits =
+    let ls = f.locals in
+    let m = matrix_there shapes f.matrices a first (not_false (is_matrix f.matrices a) named) in
+    let long : length f.inputs ≡ length lens = sym (length-map f.inputs (λ i. slice_index (promise_lens f.promises) i)) ∙ ap length (sym is) in
+    let words = awaits_words lens more (length f.inputs) ls (x ∷ []) all long short read in
+    let n = slice_index (promise_lens f.promises) (promise_number f.promises q) in
+    let (high, wide) = and_parts (n == (matrix_shape f.matrices a).rows) (slice_index (lens_of ls) (number_of ls x) == (matrix_shape f.matrices a).cols) suits in
+    let cols : slice_index lens (number_of ls x) ≡ (matrix_shape f.matrices a).cols = sym (await_len lens (lens_of ls) more (number_of ls x) all words.0.0) ∙ equal _ _ wide in
+    let there = some_is (λ (s : Shape). (slice_index lens (number_of ls x) ≡ s.cols) × (n ≡ s.rows)) (slice_get shapes (matrix_number f.matrices a)) (matrix_shape f.matrices a) m.at (cols, equal _ _ high) in
+    record {
+      put = (and_parts (is_promise f.promises q) (is_in (promise_number f.promises q) (promises_put f.steps)) put).1;
+      fits = subst (λ (ns : List ℕ). (number_of ls x < length ns) × IsSomeAnd (slice_get shapes (matrix_number f.matrices a)) (λ s. (slice_index ns (number_of ls x) ≡ s.cols) × (n ≡ s.rows))) is (words.0.0, there);
+    }
+check_sound shapes handed f (text.CheckUser promise check) q paired first named within e put read asked lens more is all short suits = record {
   put = (and_parts (is_promise f.promises q) (is_in (promise_number f.promises q) (promises_put f.steps)) put).1;
   fits = kept_there handed (user_place handed check) check paired refl asked;
 }
-check_sound handed f s q paired within built e put read asked lens more is all short suits = absurd (none-some q e)
+check_sound shapes handed f s q paired first named within e put read asked lens more is all short suits = absurd (none-some q e)

@@ -11,20 +11,21 @@ use Rattle.std.proofs.lemmas.List.{get_or_append_left}
 use Rattle.std.proofs.lemmas.List.Folds.{list_any-append}
 use Rattle.std.proofs.lemmas.Map.Keys.{IsDistinct-push}
 use Rattle.rh_words.specs.Naming.{is_name}
+use Rattle.rh_rules.specs.declared.shape.Shape.{Shape}
 use Rattle.rh_rules.specs.declared.body.Step.{Step}
 use Rattle.rh_rules.specs.declared.node.Node.{Node}
 use Rattle.rh_rules.specs.declared.node.Kind.TheVariants as kinds
 use Rattle.rh_rules.specs.declared.node.PlannedPromise.{PlannedPromise}
 use Rattle.rh_rules.specs.Tables.{is_among, is_in, lens_of}
 use Rattle.rh_rules.specs.Bodies.{promises_put, drops_of}
-use Rattle.rh_rules.specs.Lawful.{promise_lens, putter_of, IsAmong, IsEnclosedBelow, names_at}
+use Rattle.rh_rules.specs.Lawful.{promise_lens, putter_of, IsAmong, IsEnclosedBelow, names_at, product_checks}
 use Rattle.rh_rules.specs.declared.block.OpenBlock.{OpenBlock}
 use Rattle.rh_rules.specs.declared.block.OpenBlock.TheVariants.{TaskBlock, MatrixBlock, GroupBlock, ScopeBlock}
 use Rattle.rh_rules.specs.Above.{Facts, words_in, shown_in, task_node, group_node, scope_node, group_in}
 use Rattle.rh_planner.proofs.Using.{neither}
-use Rattle.rh_planner.proofs.DeclaredPromises.{same_name, name_is}
+use Rattle.rh_planner.proofs.DeclaredPromises.{same_name, name_is, slice_get_append}
 use Rattle.rh_planner.proofs.SoundTasks.{IsShort, IsSoundTask, Grows, scope_of, lens_here, locals_grown, task_grown, all_map, all_append, some_and, some_parts}
-use Rattle.rh_rules.specs.Rules.{may_check}
+use Rattle.rh_rules.specs.Rules.{may_check, is_corrected}
 use Rattle.rh_planner.specs.Sound.{IsPlannedScheme}
 use Rattle.rh_planner.proofs.SoundChecks.{IsSoundCheck, check_grown}
 use Rattle.rh_planner.proofs.LocalNames.{AreNamedLocals, names_grown}
@@ -56,19 +57,20 @@ pub record IsSoundPromise (p : PlannedPromise) : Type 0 where
   pub len : IsShort p.len
 
 -- a task that ended
-pub record IsTaskNode (ps : List PlannedPromise) (v : ℕ) (node : Node) : Type 0 where
+pub record IsTaskNode (shapes : List Shape) (ps : List PlannedPromise) (v : ℕ) (node : Node) : Type 0 where
   pub name : is_name node.name ≡ true
   pub is : node ≡ task_node node.name node.scheme node.awaits node.lets node.group node.body node.checks
   pub few : length node.awaits ≤ 16
-  pub few_locals : length (lens_here ps node.awaits node.body) ≤ 48
-  pub task : IsSoundTask ps v node.awaits node.body
-  pub all_named : length node.awaits + length node.lets ≡ length (lens_here ps node.awaits node.body)
+  pub few_locals : length (lens_here shapes ps node.awaits node.body) ≤ 48
+  pub task : IsSoundTask shapes ps v node.awaits node.body
+  pub all_named : length node.awaits + length node.lets ≡ length (lens_here shapes ps node.awaits node.body)
   pub lets_named : AllByRecursion (λ n. is_name n ≡ true) node.lets
   pub names_once : IsDistinct bytes_eq (names_at ps node.awaits ++ node.lets)
   pub few_checks : length node.checks ≤ 16
-  pub checks : AllByRecursion (IsSoundCheck ps node.awaits (promises_put node.body)) node.checks
+  pub checks : AllByRecursion (IsSoundCheck shapes ps node.awaits (promises_put node.body)) node.checks
   pub planned : IsPlannedScheme node.scheme
   pub unchecked : may_check node.scheme ≡ false → node.checks ≡ []
+  pub corrected : is_corrected node.scheme ≡ true → length (product_checks node.checks) ≡ 1
 
 -- a group, which awaits what is put before it
 pub record IsGroupNode (ps : List PlannedPromise) (v : ℕ) (node : Node) : Type 0 where
@@ -89,10 +91,10 @@ pub record IsScopeNode (ps : List PlannedPromise) (v : ℕ) (node : Node) : Type
   pub within : own < length (promise_lens ps)
   pub len : slice_index (promise_lens ps) own ≡ 3
 
-pub data IsSoundNode (ps : List PlannedPromise) (v : ℕ) (node : Node) : Type 0 where
-  a_task : IsTaskNode ps v node → IsSoundNode ps v node
-  a_group : IsGroupNode ps v node → IsSoundNode ps v node
-  a_scope : IsScopeNode ps v node → IsSoundNode ps v node
+pub data IsSoundNode (shapes : List Shape) (ps : List PlannedPromise) (v : ℕ) (node : Node) : Type 0 where
+  a_task : IsTaskNode shapes ps v node → IsSoundNode shapes ps v node
+  a_group : IsGroupNode ps v node → IsSoundNode shapes ps v node
+  a_scope : IsScopeNode ps v node → IsSoundNode shapes ps v node
 
 -- the own promise of an open scope is declared, and nothing puts it yet
 pub record IsOpenScope (ps : List PlannedPromise) (name : List ℕ) : Type 0 where
@@ -116,7 +118,7 @@ IsSoundBlock nodes ps (ScopeBlock name first) = IsOpenScope ps name
 abbrev pub IsPutBy : List Node → List Step → ℕ → ℕ → Type 0
 IsPutBy nodes steps q v = IsSomeAnd (slice_get nodes v) (λ node. IsAmong node.puts q) ⊎ ((v ≡ length nodes) × IsAmong (promises_put steps) q)
 
-pub record AreSound (f : Facts) : Type 0 where
+pub record AreSound (shapes : List Shape) (f : Facts) : Type 0 where
   pub promise_names : AreNamed (map (λ p. p.name) f.promises) f.names
   pub node_names : AreNamed (map (λ node. node.name) f.nodes ++ block_names f.blocks) f.names
   pub blocks : AllByRecursion (IsSoundBlock f.nodes f.promises) f.blocks
@@ -124,22 +126,18 @@ pub record AreSound (f : Facts) : Type 0 where
   pub few : length f.promises ≤ 16384
   pub total : words_in f.promises ≤ 16777216
   pub shown : shown_in f.promises ≤ 1048576
-  pub ended : (v : ℕ) (node : Node) → slice_get f.nodes v ≡ Some node → IsSoundNode f.promises v node
+  pub ended : (v : ℕ) (node : Node) → slice_get f.nodes v ≡ Some node → IsSoundNode shapes f.promises v node
+  pub matrices : AllByRecursion (λ m. 1 ≤ m.shape.rows) f.matrices
   pub enclosed : (v : ℕ) (node : Node) → slice_get f.nodes v ≡ Some node → IsEnclosedBelow f.nodes v node.group
-  pub task : IsSoundTask f.promises (length f.nodes) f.inputs f.steps
-  pub lens : lens_here f.promises f.inputs f.steps ≡ lens_of f.locals
+  pub task : IsSoundTask shapes f.promises (length f.nodes) f.inputs f.steps
+  pub lens : lens_here shapes f.promises f.inputs f.steps ≡ lens_of f.locals
   pub drops : drops_of f.steps ≡ map (λ i. slice_index f.inputs i) f.drops
   pub drops_within : AllByRecursion (λ i. i < length f.inputs) f.drops
   pub named : AreNamedLocals f.promises f.inputs f.locals
-  pub checks : AllByRecursion (IsSoundCheck f.promises f.inputs (promises_put f.steps)) f.checks
+  pub checks : AllByRecursion (IsSoundCheck shapes f.promises f.inputs (promises_put f.steps)) f.checks
   pub unchecked : may_check f.scheme ≡ false → f.checks ≡ []
   pub put : (q v : ℕ) → putter_of f.promises q ≡ Some v → IsPutBy f.nodes f.steps q v
   pub scopes : (q : ℕ) (p : PlannedPromise) → slice_get f.promises q ≡ Some p → p.scope ≡ true → p.putter ≡ None → is_among p.name (scope_names f.blocks) ≡ true
-
-pub slice_get_append : {X : Type 0} (xs ys : List X) (i : ℕ) (x : X) → slice_get xs i ≡ Some x → slice_get (xs ++ ys) i ≡ Some x
-slice_get_append [] ys i x e = absurd (none-some x e)
-slice_get_append (a ∷ xs) ys zero x e = e
-slice_get_append (a ∷ xs) ys (suc i) x e = slice_get_append xs ys i x e
 
 pub slice_get_last : {X : Type 0} (xs : List X) (y : X) → slice_get (xs ++ y ∷ []) (length xs) ≡ Some y
 slice_get_last [] y = refl
@@ -200,19 +198,20 @@ named_insert xs zs declared y h fresh = record {
       (list_any-append (λ m. bytes_eq m y) declared (y ∷ []) ∙ or_right (is_among y declared) (is_among y (y ∷ [])) (or_false (bytes_eq y y) ∙ name_is y y refl));
 }
 
-task_node_grown : (ps qs : List PlannedPromise) (v : ℕ) (node : Node) → Grows ps qs → IsTaskNode ps v node → IsTaskNode qs v node
-task_node_grown ps qs v node grows h = record {
+task_node_grown : (shapes : List Shape) (ps qs : List PlannedPromise) (v : ℕ) (node : Node) → Grows ps qs → IsTaskNode shapes ps v node → IsTaskNode shapes qs v node
+task_node_grown shapes ps qs v node grows h = record {
   name = h.name;
   is = h.is;
   few = h.few;
-  few_locals = subst (λ (l : List ℕ). length l ≤ 48) (sym (locals_grown ps qs v node.awaits node.body grows h.task.awaited)) h.few_locals;
-  task = task_grown ps qs v node.awaits node.body grows h.task;
-  all_named = h.all_named ∙ ap length (sym (locals_grown ps qs v node.awaits node.body grows h.task.awaited));
+  few_locals = subst (λ (l : List ℕ). length l ≤ 48) (sym (locals_grown shapes ps qs v node.awaits node.body grows h.task.awaited)) h.few_locals;
+  task = task_grown shapes ps qs v node.awaits node.body grows h.task;
+  all_named = h.all_named ∙ ap length (sym (locals_grown shapes ps qs v node.awaits node.body grows h.task.awaited));
   lets_named = h.lets_named;
   few_checks = h.few_checks;
-  checks = all_map node.checks (λ c sound. check_grown ps qs v node.awaits (promises_put node.body) c grows h.task.awaited h.task.own sound) h.checks;
+  checks = all_map node.checks (λ c sound. check_grown shapes ps qs v node.awaits (promises_put node.body) c grows h.task.awaited h.task.own sound) h.checks;
   planned = h.planned;
   unchecked = h.unchecked;
+  corrected = h.corrected;
   names_once = subst (λ (l : List (List ℕ)). IsDistinct bytes_eq (l ++ node.lets)) (sym (names_grown ps qs v node.awaits grows h.task.awaited)) h.names_once;
 }
 
@@ -241,10 +240,10 @@ scope_node_grown ps qs v node grows h =
       len = ap (λ (l : List ℕ). slice_index l h.own) lens ∙ get_or_append_left (promise_lens ps) more 0 h.own within ∙ h.len;
     }
 
-pub node_grown : (ps qs : List PlannedPromise) (v : ℕ) (node : Node) → Grows ps qs → IsSoundNode ps v node → IsSoundNode qs v node
-node_grown ps qs v node grows (a_task h) = a_task (task_node_grown ps qs v node grows h)
-node_grown ps qs v node grows (a_group h) = a_group (group_node_grown ps qs v node grows h)
-node_grown ps qs v node grows (a_scope h) = a_scope (scope_node_grown ps qs v node grows h)
+pub node_grown : (shapes : List Shape) (ps qs : List PlannedPromise) (v : ℕ) (node : Node) → Grows ps qs → IsSoundNode shapes ps v node → IsSoundNode shapes qs v node
+node_grown shapes ps qs v node grows (a_task h) = a_task (task_node_grown shapes ps qs v node grows h)
+node_grown shapes ps qs v node grows (a_group h) = a_group (group_node_grown ps qs v node grows h)
+node_grown shapes ps qs v node grows (a_scope h) = a_scope (scope_node_grown ps qs v node grows h)
 
 -- an enclosing group stays below more nodes
 pub enclosed_grown : (nodes more : List Node) (v : ℕ) (group : Option ℕ) → IsEnclosedBelow nodes v group → IsEnclosedBelow (nodes ++ more) v group
@@ -291,8 +290,8 @@ pub no_names : IsDistinct bytes_eq []
 unfolding IsDistinct
 no_names = tt
 
-pub idle_task : (ps : List PlannedPromise) (v : ℕ) → IsSoundTask ps v [] []
-idle_task ps v = record { awaited = tt; awaits_once = none_distinct; sound = tt; own = tt; once = none_distinct; unscoped = tt; dropped = tt; drops_once = none_distinct; short = tt }
+pub idle_task : (shapes : List Shape) (ps : List PlannedPromise) (v : ℕ) → IsSoundTask shapes ps v [] []
+idle_task shapes ps v = record { awaited = tt; awaits_once = none_distinct; sound = tt; own = tt; once = none_distinct; unscoped = tt; dropped = tt; drops_once = none_distinct; short = tt }
 
 pub no_numbers : IsDistinct nat_eq []
 no_numbers = none_distinct

@@ -9,6 +9,7 @@ use Rattle.std.proofs.lemmas.Option.{same_Some, slice_get_within}
 use Rattle.std.proofs.lemmas.List.{map-append, length-map}
 use Rattle.rh_words.specs.Naming.{is_name}
 use Rattle.rh_task_text.specs.declared.statement.SchemeText.{SchemeText}
+use Rattle.rh_rules.specs.declared.shape.Shape.{Shape}
 use Rattle.rh_rules.specs.declared.node.Node.{Node}
 use Rattle.rh_rules.specs.declared.node.Kind.TheVariants as kinds
 use Rattle.rh_rules.specs.declared.body.Step.{Step}
@@ -20,9 +21,9 @@ use Rattle.rh_rules.specs.Above.{Facts, await_local}
 use Rattle.rh_rules.specs.Rules.{are_distinct}
 use Rattle.rh_planner.proofs.After.{with_task, with_group, group_in_facts}
 use Rattle.rh_planner.proofs.Using.{neither, not_false}
-use Rattle.rh_planner.proofs.DeclaredPromises.{some_of, all_at, name_is, putter_at, declared}
+use Rattle.rh_planner.proofs.DeclaredPromises.{some_of, all_at, name_is, putter_at, declared, slice_get_append}
 use Rattle.rh_planner.proofs.SoundTasks.{IsShort, some_and, some_is, some_parts}
-use Rattle.rh_planner.proofs.SoundFacts.{AreNamed, AreSound, IsSoundPromise, IsSoundNode, a_group, IsGroupNode, IsPutBy, block_names, named_kept, named_insert, blocks_grown, idle_task, no_numbers, slice_get_append, slice_get_last, slice_get_push_cases, named_push}
+use Rattle.rh_planner.proofs.SoundFacts.{AreNamed, AreSound, IsSoundPromise, IsSoundNode, a_group, IsGroupNode, IsPutBy, block_names, named_kept, named_insert, blocks_grown, idle_task, no_numbers, slice_get_last, slice_get_push_cases}
 use Rattle.rh_planner.proofs.PromiseLines.{enclosed_more}
 use Rattle.rh_planner.proofs.LocalNames.{no_locals, locals_opened}
 
@@ -89,9 +90,9 @@ awaits_long ps (q ∷ names) known =
     ap (λ (n : ℕ). n ∷ lens_at (promise_lens ps) (map (promise_number ps) names)) (d.long ∙ sym d.len)
     ∙ ap (λ (l : List ℕ). (await_local ps q).len ∷ l) (awaits_long ps names known.1)
 
-pub sound_task : (f : Facts) (name : List ℕ) (scheme : SchemeText) (awaits : List (List ℕ)) → AreSound f → f.steps ≡ [] → is_among name f.names ≡ false → is_name name ≡ true
-    → are_distinct awaits ≡ true → list_any (λ q. not (is_promise f.promises q)) awaits ≡ false → list_any (λ q. not (is_put f.promises q)) awaits ≡ false → AreSound (with_task f name scheme awaits)
-sound_task f name scheme awaits s idle fresh named distinct known in_order =
+pub sound_task : (shapes : List Shape) (f : Facts) (name : List ℕ) (scheme : SchemeText) (awaits : List (List ℕ)) → AreSound shapes f → f.steps ≡ [] → is_among name f.names ≡ false → is_name name ≡ true
+    → are_distinct awaits ≡ true → list_any (λ q. not (is_promise f.promises q)) awaits ≡ false → list_any (λ q. not (is_put f.promises q)) awaits ≡ false → AreSound shapes (with_task f name scheme awaits)
+sound_task shapes f name scheme awaits s idle fresh named distinct known in_order =
     let ps : List PlannedPromise = f.promises in
     let all = all_declared ps awaits known in
     let put : (q v : ℕ) → putter_of ps q ≡ Some v → IsPutBy f.nodes [] q v = λ q v e. subst (λ (steps : List Step). IsPutBy f.nodes steps q v) idle (s.put q v e) in
@@ -104,6 +105,7 @@ sound_task f name scheme awaits s idle fresh named distinct known in_order =
       total = s.total;
       shown = s.shown;
       ended = s.ended;
+      matrices = s.matrices;
       enclosed = s.enclosed;
       task = record {
         awaited = put_above ps f.nodes awaits put all in_order;
@@ -126,9 +128,9 @@ sound_task f name scheme awaits s idle fresh named distinct known in_order =
       scopes = s.scopes;
     }
 
-pub sound_group : (f : Facts) (name : List ℕ) (awaits : List (List ℕ)) → AreSound f → f.count ≡ length f.nodes → f.steps ≡ [] → is_among name f.names ≡ false → is_name name ≡ true → length awaits ≤ 16
-    → are_distinct awaits ≡ true → list_any (λ q. not (is_promise f.promises q)) awaits ≡ false → list_any (λ q. not (is_put f.promises q)) awaits ≡ false → AreSound (with_group f name awaits)
-sound_group f name awaits s counted idle fresh named few distinct known in_order =
+pub sound_group : (shapes : List Shape) (f : Facts) (name : List ℕ) (awaits : List (List ℕ)) → AreSound shapes f → f.count ≡ length f.nodes → f.steps ≡ [] → is_among name f.names ≡ false → is_name name ≡ true → length awaits ≤ 16
+    → are_distinct awaits ≡ true → list_any (λ q. not (is_promise f.promises q)) awaits ≡ false → list_any (λ q. not (is_put f.promises q)) awaits ≡ false → AreSound shapes (with_group f name awaits)
+sound_group shapes f name awaits s counted idle fresh named few distinct known in_order =
     let ps : List PlannedPromise = f.promises in
     let n : Node = group_in_facts f name awaits in
     let all = all_declared ps awaits known in
@@ -155,10 +157,11 @@ sound_group f name awaits s counted idle fresh named few distinct known in_order
       shown = s.shown;
       ended = λ v node at. elim (slice_get_push_cases f.nodes n v node at) [
         | inl old ↦ s.ended v node old
-        | inr new ↦ subst (λ (m : Node). IsSoundNode ps v m) new.1 (subst (λ (k : ℕ). IsSoundNode ps k n) (sym new.0) (a_group group))
+        | inr new ↦ subst (λ (m : Node). IsSoundNode shapes ps v m) new.1 (subst (λ (k : ℕ). IsSoundNode shapes ps k n) (sym new.0) (a_group group))
       ];
-      enclosed = enclosed_more f n s refl;
-      task = idle_task ps (length (f.nodes ++ n ∷ []));
+      matrices = s.matrices;
+      enclosed = enclosed_more shapes f n s refl;
+      task = idle_task shapes ps (length (f.nodes ++ n ∷ []));
       lens = refl;
       drops = refl;
       drops_within = tt;

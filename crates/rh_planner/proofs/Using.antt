@@ -6,9 +6,10 @@ use Rattle.std.proofs.lemmas.Bool.{false≢true, true≢false}
 use Rattle.rh_task_text.specs.declared.statement.Statement.{Statement}
 use Rattle.rh_rules.specs.Tables.{LocalName, if_any, is_in, place_of, is_local, number_of, promise_at, promise_named, promise_number, is_promise, is_put}
 use Rattle.rh_rules.specs.declared.node.PlannedPromise.{PlannedPromise}
+use Rattle.rh_rules.specs.declared.shape.NamedShape.{NamedShape}
 use Rattle.rh_rules.specs.Facets.{facets}
 use Rattle.rh_rules.specs.Above.{numbers_used, lens_used}
-use Rattle.rh_planner.specs.Making.{uses_unknown, uses_dropped}
+use Rattle.rh_planner.specs.Making.{uses_unknown, uses_dropped, names_no_matrix}
 
 pub not_false : (b : Bool) → not b ≡ false → b ≡ true
 not_false true e = refl
@@ -30,8 +31,8 @@ dropped_all ls drops (x ∷ xs) e =
     ∙ ap (λ t. is_in (number_of ls x) drops || t) (dropped_all ls drops xs rest)
 
 -- where all locals are there, the dropped ones are those of dropped numbers
-pub uses_dropped_numbers : (ls : List LocalName) (drops : List ℕ) (s : Statement) → uses_unknown ls s ≡ false → uses_dropped ls drops s ≡ list_any (λ i. is_in i drops) (numbers_used ls s)
-uses_dropped_numbers ls drops s e = dropped_all ls drops (facets s).used e
+pub uses_dropped_numbers : (ms : List NamedShape) (ls : List LocalName) (drops : List ℕ) (s : Statement) → uses_unknown ms ls s ≡ false → uses_dropped ls drops s ≡ list_any (λ i. is_in i drops) (numbers_used ls s)
+uses_dropped_numbers ms ls drops s e = dropped_all ls drops (facets s).used (neither (list_any (λ x. not (is_local ls x)) (facets s).used) (names_no_matrix ms s) e).0
 
 -- what is declared is found by its number
 named_at : (ps : List PlannedPromise) (o : Option ℕ) → is_some o ≡ true → option_and_then (λ i. slice_get ps i) o ≡ slice_get ps (unwrap_or o 0)

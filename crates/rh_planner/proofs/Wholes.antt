@@ -49,7 +49,7 @@ facts_next look above s =
 
 -- a planner that has these facts is these facts
 pub same_facts : (p : Planner) (f : Facts) → HasFacts p f → facts_of p ≡ f
-same_facts p f h = rw (h.count, h.nodes, h.names, h.promises, h.blocks, h.inputs, h.locals, h.drops, h.steps, h.scheme, h.checks) refl
+same_facts p f h = rw (h.count, h.nodes, h.names, h.promises, h.matrices, h.closed, h.begun, h.blocks, h.inputs, h.locals, h.drops, h.steps, h.scheme, h.checks) refl
 
 -- what a judged statement leaves, by the statements above
 pub judged_next : (handed : HandedChecks) (above : List Statement) (s : Statement) (old new : Planner) → old.handed ≡ handed → HasFacts old (facts_above (look_above handed) above) → Judges old s new None → HasFacts new (facts_above (look_above handed) (s ∷ above))

@@ -1,8 +1,12 @@
 -- What the planner keeps of the statements above a line.
-use Rattle.std.specs.Prelude.{◌≡◌, ◌≤◌, ◌+◌, List, [], ◌∷◌, Option, None, true, false, length, ⊤, ℕ, map, option_to_list}
-use Rattle.rh_words.specs.declared.limits.TheConstants.{MAX_NODES, MAX_AWAITS, MAX_LETS}
+use Rattle.std.specs.Prelude.{◌≡◌, ◌≤◌, ◌<◌, ◌+◌, List, [], ◌∷◌, Option, Some, None, true, false, length, ⊤, ℕ, map, option_to_list}
+use Rattle.std.specs.List.{AllByRecursion}
+use Rattle.rh_words.specs.declared.limits.TheConstants.{MAX_NODES, MAX_AWAITS, MAX_LETS, MAX_MATRICES, MAX_MATRIX_SIDE}
 use Rattle.rh_words.specs.declared.reason.Reason.{Reason}
 use Rattle.rh_task_text.specs.declared.statement.Statement.{Statement}
+use Rattle.rh_task_text.specs.declared.statement.Statement.TheVariants.{Row}
+use Rattle.rh_sparse.specs.Matrix.{MatrixData, IsRow}
+use Rattle.rh_rules.specs.Facets.{cells_of}
 use Rattle.rh_rules.specs.declared.node.PlannedPromise.{PlannedPromise}
 use Rattle.rh_rules.specs.Tables.{is_promise, is_put}
 use Rattle.rh_rules.specs.declared.block.OpenBlock.{OpenBlock}
@@ -18,6 +22,9 @@ abbrev pub facts_of : Planner → Facts
 facts_of p = record {
   names = p.declared.names;
   promises = p.declared.promises;
+  matrices = p.matrices.items;
+  closed = p.closed;
+  begun = p.begun;
   blocks = p.blocks;
   count = length p.nodes.items;
   nodes = p.nodes.items;
@@ -33,6 +40,9 @@ facts_of p = record {
 pub record HasFacts (p : Planner) (f : Facts) : Type 0 where
   pub names : p.declared.names ≡ f.names
   pub promises : p.declared.promises ≡ f.promises
+  pub matrices : p.matrices.items ≡ f.matrices
+  pub closed : p.closed ≡ f.closed
+  pub begun : p.begun ≡ f.begun
   pub blocks : p.blocks ≡ f.blocks
   pub count : length p.nodes.items ≡ f.count
   pub nodes : p.nodes.items ≡ f.nodes
@@ -47,6 +57,7 @@ pub record HasFacts (p : Planner) (f : Facts) : Type 0 where
 pub record HasRoom (p : Planner) : Type 0 where
   pub nodes : length p.nodes.items ≤ MAX_NODES
   pub locals : length p.task.locals.items ≤ MAX_AWAITS + MAX_LETS
+  pub matrices : length p.matrices.items ≤ MAX_MATRICES
 
 -- the answer is the reason of the statement, and where there is none the tables follow; the handed-in checks stay
 pub record Judges (old : Planner) (s : Statement) (new : Planner) (answer : Option Reason) : Type 0 where
@@ -61,3 +72,9 @@ IsClosable promises (TaskBlock name ∷ outer) = ⊤
 IsClosable promises (GroupBlock number ∷ outer) = ⊤
 IsClosable promises (MatrixBlock ∷ outer) = ⊤
 IsClosable promises [] = ⊤
+
+-- the matrix that is begun takes the row, where the statement is one
+abbrev pub TakesRow : Option MatrixData → Statement → Type 0
+TakesRow (Some a) (Row columns values) = IsRow a.cols (cells_of columns values) × (length a.rows < MAX_MATRIX_SIDE) × AllByRecursion (λ j. j < MAX_MATRIX_SIDE) columns
+TakesRow None (Row columns values) = ⊥
+TakesRow begun s = ⊤

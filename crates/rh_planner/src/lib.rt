@@ -1,5 +1,5 @@
-//! Planning: the statements of a text as nodes and promises, line by line.
-//! The one contract is that of `drafts`: a text is planned as its nodes and promises, which are lawful, or refused at its
+//! Planning: the statements of a text as nodes, promises and matrices, line by line.
+//! The one contract is that of `drafts`: a text is planned as its nodes, promises and matrices, which are lawful, or refused at its
 //! first statement that breaks a rule, with the first reason that holds there. It stands on the definitions of rh_rules.
 #![tactic(auto)]
 
@@ -8,6 +8,7 @@ mod blocks;
 mod declarations;
 mod handed;
 mod laws;
+mod matrices;
 mod node;
 mod open_task;
 mod planned;

@@ -1,20 +1,24 @@
 //! The open task while its lines are planned.
 
-ghost use Rattle.std.specs.Prelude.{◌≡◌, ◌++◌, ◌≤◌, ◌<◌, ◌+◌, [], IfOk, Some, None, length, not, true, false, option_to_list, is_some, slice_index, ◌==◌, ◌||◌};
+ghost use Rattle.std.specs.Prelude.{◌≡◌, ◌++◌, ◌≤◌, ◌<◌, ◌+◌, [], IfOk, Some, None, length, not, true, false, option_to_list, is_some, slice_index, ◌==◌, ◌||◌, ◌&&◌};
 ghost use Rattle.std.specs.List.{list_any};
-ghost use Rattle.rh_words.specs.declared.limits.TheConstants.{MAX_AWAITS, MAX_LETS};
+ghost use Rattle.rh_words.specs.declared.limits.TheConstants.{MAX_AWAITS, MAX_LETS, MAX_MATRICES};
 ghost use Rattle.rh_rules.specs.Tables.{is_in};
 ghost use Rattle.rh_rules.specs.Facets.{facets};
 ghost use Rattle.rh_rules.specs.Limits.{IsWithinLimits};
-ghost use Rattle.rh_rules.specs.Above.{numbers_used, lens_used, lens_read, local_made};
+ghost use Rattle.rh_rules.specs.Above.{matrix_used, shape_used, numbers_used, lens_used, lens_read, local_made};
+ghost use Rattle.rh_rules.specs.Lawful.{has_product, is_product};
+ghost use Rattle.rh_planner.specs.Making.{IsNamed};
 ghost use Rattle.rh_rules.specs.Bodies.{promises_put, put_at};
-ghost use Rattle.rh_rules.specs.Rules.{may_check};
-ghost use Rattle.rh_planner.specs.Making.{let_reason, put_reason, check_reason, uses_unknown, reads_unknown, numbers_read};
+ghost use Rattle.rh_rules.specs.Rules.{may_check, is_corrected, is_second_product, asks_product};
+ghost use Rattle.rh_planner.specs.Making.{let_reason, put_reason, check_reason, uses_unknown, reads_unknown, names_no_matrix, numbers_read};
 
+use crate::matrices::{Named, find_matrix};
 use crate::used::{find_awaits, look_up};
+use rh_check::Spec;
 use rh_rules::{
-    Body, CheckList, Local, Numbers, PlannedPromise, Scheme, Step, fits, list_inputs, list_used,
-    made_len, place_of, step_of, suits,
+    Body, CheckList, Local, NamedShape, Numbers, PlannedCheck, PlannedPromise, Scheme, Shape, Step,
+    asks_product, fits, list_inputs, list_used, made_len, place_of, step_of, suits,
 };
 use rh_task_text::Statement;
 use rh_words::limits::MAX_PROMISE_WORDS;
@@ -32,7 +36,8 @@ pub struct OpenTask {
     pub body: Body,
     pub scheme: Scheme,
     pub checks: CheckList,
-    /// What the last line uses: names, numbers and lengths of locals.
+    /// What the last line uses: a matrix, and names, numbers and lengths of locals.
+    pub matrix: Named,
     pub names: Vec<Name>,
     pub numbers: Vec<u32>,
     pub lens: Vec<u32>,
@@ -55,6 +60,10 @@ impl OpenTask {
             body: Body::new(alloc),
             scheme: Scheme::Plain,
             checks: CheckList::new(alloc),
+            matrix: Named {
+                number: 0,
+                shape: Shape { rows: 0, cols: 0 },
+            },
             names: Vec::new(alloc),
             numbers: Vec::new(alloc),
             lens: Vec::new(alloc),
@@ -78,10 +87,16 @@ impl OpenTask {
         self.checks = CheckList::new(alloc);
     }
 
-    /// Looks up the locals that the statement uses. Whether all are there.
-    pub fn look_up(&mut self, statement: &Statement) -> Result<bool, OutOfMemory>
-        requires { length self.old.locals.items ≤ MAX_AWAITS + MAX_LETS }
-        ensures known { IfOk result (λ known. known ≡ not (uses_unknown self.old.locals.items statement.now)) }
+    /// Looks up the matrix that the statement names and the locals that it uses. Whether all are there.
+    pub fn look_up(
+        &mut self,
+        matrices: &[NamedShape],
+        statement: &Statement,
+    ) -> Result<bool, OutOfMemory>
+        requires few { length self.old.locals.items ≤ MAX_AWAITS + MAX_LETS }
+        requires few_matrices { length matrices.now ≤ MAX_MATRICES }
+        ensures known { IfOk result (λ known. known ≡ not (uses_unknown matrices.now self.old.locals.items statement.now)) }
+        ensures matrix { IfOk result (λ known. known ≡ true → IsNamed matrices.now statement.now self.new.matrix) }
         ensures numbers { IfOk result (λ known. known ≡ true → self.new.numbers.items ≡ numbers_used self.old.locals.items statement.now) }
         ensures lens { IfOk result (λ known. known ≡ true → self.new.lens.items ≡ lens_used self.old.locals.items statement.now) }
         ensures inputs { self.new.inputs ≡ self.old.inputs }
@@ -93,7 +108,14 @@ impl OpenTask {
     {
         self.names.clear();
         list_used(statement, &mut self.names)?;
-        look_up(&self.locals, &self.names, &mut self.numbers, &mut self.lens)
+        let known = look_up(&self.locals, &self.names, &mut self.numbers, &mut self.lens)?;
+        match find_matrix(matrices, statement) {
+            Some(matrix) => {
+                self.matrix = matrix;
+                Ok(known)
+            }
+            None => Ok(false),
+        }
     }
 
     /// Whether a local that was looked up is dropped above.
@@ -107,14 +129,21 @@ impl OpenTask {
 
     /// Why a `let` that makes the local `x` is refused. Where it is not, what it uses is looked up, fits and is short.
     #[tactic(auto, using(crate::proofs::Using::uses_dropped_numbers))]
-    fn let_reason(&mut self, x: &Name, statement: &Statement) -> Result<Option<Reason>, OutOfMemory>
+    fn let_reason(
+        &mut self,
+        matrices: &[NamedShape],
+        x: &Name,
+        statement: &Statement,
+    ) -> Result<Option<Reason>, OutOfMemory>
         requires few { length self.old.locals.items ≤ MAX_AWAITS + MAX_LETS }
+        requires few_matrices { length matrices.now ≤ MAX_MATRICES }
         requires within { IsWithinLimits statement.now }
-        ensures reason { IfOk result (λ answer. answer ≡ let_reason self.old.locals.items self.old.drops.items x.now statement.now) }
+        ensures reason { IfOk result (λ answer. answer ≡ let_reason matrices.now self.old.locals.items self.old.drops.items x.now statement.now) }
+        ensures matrix { IfOk result (λ answer. answer ≡ None → IsNamed matrices.now statement.now self.new.matrix) }
         ensures numbers { IfOk result (λ answer. answer ≡ None → self.new.numbers.items ≡ numbers_used self.old.locals.items statement.now) }
         ensures lens { IfOk result (λ answer. answer ≡ None → self.new.lens.items ≡ lens_used self.old.locals.items statement.now) }
-        ensures fits { IfOk result (λ answer. answer ≡ None → (facets statement.now).fits self.new.lens.items ≡ true) }
-        ensures short { IfOk result (λ answer. answer ≡ None → (facets statement.now).len self.new.lens.items ≤ MAX_PROMISE_WORDS) }
+        ensures fits { IfOk result (λ answer. answer ≡ None → (facets statement.now).fits self.new.matrix.shape self.new.lens.items ≡ true) }
+        ensures short { IfOk result (λ answer. answer ≡ None → (facets statement.now).len self.new.matrix.shape self.new.lens.items ≤ MAX_PROMISE_WORDS) }
         ensures inputs { self.new.inputs ≡ self.old.inputs }
         ensures locals { self.new.locals ≡ self.old.locals }
         ensures drops { self.new.drops ≡ self.old.drops }
@@ -125,16 +154,16 @@ impl OpenTask {
         if place_of(&self.locals, x).is_some() {
             return Ok(Some(Reason::Twice));
         }
-        if !self.look_up(statement)? {
+        if !self.look_up(matrices, statement)? {
             return Ok(Some(Reason::Unknown));
         }
-        if !fits(statement, &self.lens) {
+        if !fits(statement, self.matrix.shape, &self.lens) {
             return Ok(Some(Reason::Length));
         }
         if self.is_any_dropped() {
             return Ok(Some(Reason::Dropped));
         }
-        if made_len(statement, &self.lens) > MAX_PROMISE_WORDS {
+        if made_len(statement, self.matrix.shape, &self.lens) > MAX_PROMISE_WORDS {
             return Ok(Some(Reason::PlanLimit));
         }
         Ok(None)
@@ -144,25 +173,28 @@ impl OpenTask {
     pub fn make(
         &mut self,
         alloc: Global,
+        matrices: &[NamedShape],
         x: Name,
         statement: &Statement,
     ) -> Result<Option<Reason>, OutOfMemory>
         requires few { length self.old.locals.items ≤ MAX_AWAITS + MAX_LETS }
+        requires few_matrices { length matrices.now ≤ MAX_MATRICES }
         requires within { IsWithinLimits statement.now }
         requires makes { (facets statement.now).made ≡ Some x }
-        ensures reason { IfOk result (λ answer. answer ≡ let_reason self.old.locals.items self.old.drops.items x statement.now) }
+        ensures reason { IfOk result (λ answer. answer ≡ let_reason matrices.now self.old.locals.items self.old.drops.items x statement.now) }
         ensures inputs { self.new.inputs ≡ self.old.inputs }
         ensures drops { self.new.drops ≡ self.old.drops }
         ensures scheme { self.new.scheme ≡ self.old.scheme }
         ensures checks { self.new.checks ≡ self.old.checks }
-        ensures locals { IfOk result (λ answer. answer ≡ None → self.new.locals.items ≡ self.old.locals.items ++ local_made self.old.locals.items statement.now) }
-        ensures steps { IfOk result (λ answer. answer ≡ None → self.new.body ≡ self.old.body ++ option_to_list ((facets statement.now).step (numbers_used self.old.locals.items statement.now))) }
+        ensures locals { IfOk result (λ answer. answer ≡ None → self.new.locals.items ≡ self.old.locals.items ++ local_made matrices.now self.old.locals.items statement.now) }
+        ensures steps { IfOk result (λ answer. answer ≡ None → self.new.body ≡ self.old.body ++ option_to_list ((facets statement.now).step (matrix_used matrices.now statement.now) (numbers_used self.old.locals.items statement.now))) }
     {
-        if let Some(reason) = self.let_reason(&x, statement)? {
+        if let Some(reason) = self.let_reason(matrices, &x, statement)? {
             return Ok(Some(reason));
         }
-        let len = made_len(statement, &self.lens);
-        if let Some(step) = step_of(alloc, statement, &self.numbers, &self.lens)? {
+        let len = made_len(statement, self.matrix.shape, &self.lens);
+        let Named { number, shape } = self.matrix;
+        if let Some(step) = step_of(alloc, statement, number, &self.numbers, shape, &self.lens)? {
             self.body.push(step)?;
         }
         self.locals.push(Local::new(x, len as u32))?;
@@ -173,12 +205,14 @@ impl OpenTask {
     #[tactic(auto, using(crate::proofs::Using::uses_dropped_numbers))]
     pub fn put_reason(
         &mut self,
+        matrices: &[NamedShape],
         promise: &PlannedPromise,
         statement: &Statement,
     ) -> Result<Option<Reason>, OutOfMemory>
         requires few { length self.old.locals.items ≤ MAX_AWAITS + MAX_LETS }
+        requires few_matrices { length matrices.now ≤ MAX_MATRICES }
         requires uses { 0 < length (facets statement.now).used }
-        ensures reason { IfOk result (λ answer. answer ≡ put_reason promise.now self.old.locals.items self.old.drops.items statement.now) }
+        ensures reason { IfOk result (λ answer. answer ≡ put_reason promise.now matrices.now self.old.locals.items self.old.drops.items statement.now) }
         ensures numbers { IfOk result (λ answer. answer ≡ None → self.new.numbers.items ≡ numbers_used self.old.locals.items statement.now) }
         ensures unput { IfOk result (λ answer. answer ≡ None → is_some promise.now.putter ≡ false) }
         ensures inputs { self.new.inputs ≡ self.old.inputs }
@@ -188,13 +222,13 @@ impl OpenTask {
         ensures scheme { self.new.scheme ≡ self.old.scheme }
         ensures checks { self.new.checks ≡ self.old.checks }
     {
-        if !self.look_up(statement)? {
+        if !self.look_up(matrices, statement)? {
             return Ok(Some(Reason::Unknown));
         }
         if is_owned(promise) {
             return Ok(Some(Reason::Owner));
         }
-        if is_put_misfit(promise, statement, &self.lens) {
+        if is_put_misfit(promise, statement, self.matrix.shape, &self.lens) {
             return Ok(Some(Reason::Length));
         }
         if self.is_any_dropped() {
@@ -203,11 +237,16 @@ impl OpenTask {
         Ok(None)
     }
 
-    /// Looks up the awaits that the check reads. Whether all are there.
-    fn look_up_inputs(&mut self, statement: &Statement) -> Result<bool, OutOfMemory>
+    /// Looks up the matrix that the check names and the awaits that it reads. Whether all are there.
+    fn look_up_inputs(
+        &mut self,
+        matrices: &[NamedShape],
+        statement: &Statement,
+    ) -> Result<bool, OutOfMemory>
         requires few { length self.old.locals.items ≤ MAX_AWAITS + MAX_LETS }
-        requires built { (facets statement.now).built ≡ true }
-        ensures known { IfOk result (λ known. known ≡ not (reads_unknown (length self.old.inputs) self.old.locals.items statement.now)) }
+        requires few_matrices { length matrices.now ≤ MAX_MATRICES }
+        ensures known { IfOk result (λ known. known ≡ not (reads_unknown (length self.old.inputs) self.old.locals.items statement.now || names_no_matrix matrices.now statement.now)) }
+        ensures matrix { IfOk result (λ known. known ≡ true → IsNamed matrices.now statement.now self.new.matrix) }
         ensures numbers { IfOk result (λ known. known ≡ true → self.new.numbers.items ≡ numbers_read self.old.locals.items statement.now) }
         ensures lens { IfOk result (λ known. known ≡ true → self.new.lens.items ≡ lens_read self.old.locals.items statement.now) }
         ensures inputs { self.new.inputs ≡ self.old.inputs }
@@ -220,29 +259,38 @@ impl OpenTask {
         self.names.clear();
         list_inputs(statement, &mut self.names)?;
         let count = self.inputs.as_slice().len();
-        find_awaits(
+        let known = find_awaits(
             count,
             &self.locals,
             &self.names,
             &mut self.numbers,
             &mut self.lens,
-        )
+        )?;
+        match find_matrix(matrices, statement) {
+            Some(matrix) => {
+                self.matrix = matrix;
+                Ok(known)
+            }
+            None => Ok(false),
+        }
     }
 
     /// Why a check of the promise of this number and length is refused. Where it is not, what it reads is looked up and fits.
     #[tactic(auto, using(crate::proofs::Reading::reads_dropped_numbers))]
     pub fn check_reason(
         &mut self,
+        matrices: &[NamedShape],
         promise: u32,
         len: u32,
         statement: &Statement,
     ) -> Result<Option<Reason>, OutOfMemory>
         requires few { length self.old.locals.items ≤ MAX_AWAITS + MAX_LETS }
-        requires built { (facets statement.now).built ≡ true }
-        ensures reason { IfOk result (λ answer. answer ≡ check_reason promise len self.old.body self.old.scheme (length self.old.inputs) self.old.locals.items self.old.drops.items statement.now) }
+        requires few_matrices { length matrices.now ≤ MAX_MATRICES }
+        ensures reason { IfOk result (λ answer. answer ≡ check_reason promise len self.old.body self.old.scheme self.old.checks (length self.old.inputs) matrices.now self.old.locals.items self.old.drops.items statement.now) }
+        ensures matrix { IfOk result (λ answer. answer ≡ None → IsNamed matrices.now statement.now self.new.matrix) }
         ensures numbers { IfOk result (λ answer. answer ≡ None → self.new.numbers.items ≡ numbers_read self.old.locals.items statement.now) }
         ensures lens { IfOk result (λ answer. answer ≡ None → self.new.lens.items ≡ lens_read self.old.locals.items statement.now) }
-        ensures suits { IfOk result (λ answer. answer ≡ None → (facets statement.now).suits len self.new.lens.items ≡ true) }
+        ensures suits { IfOk result (λ answer. answer ≡ None → (facets statement.now).suits self.new.matrix.shape len self.new.lens.items ≡ true) }
         ensures inputs { self.new.inputs ≡ self.old.inputs }
         ensures locals { self.new.locals ≡ self.old.locals }
         ensures drops { self.new.drops ≡ self.old.drops }
@@ -250,19 +298,63 @@ impl OpenTask {
         ensures scheme { self.new.scheme ≡ self.old.scheme }
         ensures checks { self.new.checks ≡ self.old.checks }
     {
-        if !is_put_in(self.body.steps(), promise) || !self.look_up_inputs(statement)? {
+        if !is_put_in(self.body.steps(), promise) || !self.look_up_inputs(matrices, statement)? {
             return Ok(Some(Reason::Unknown));
         }
-        if !suits(statement, len, &self.lens) {
+        if !suits(statement, self.matrix.shape, len, &self.lens) {
             return Ok(Some(Reason::Length));
         }
-        if !may_check(self.scheme) {
+        if !may_check(self.scheme) || asks_product(statement) && self.has_corrector() {
             return Ok(Some(Reason::Scheme));
         }
         if self.is_any_dropped() {
             return Ok(Some(Reason::Dropped));
         }
         Ok(None)
+    }
+}
+
+impl OpenTask {
+    /// Whether it is a task with correction that has a check of a product.
+    #[tactic(auto, using(crate::proofs::Correctors::has_planned_product))]
+    fn has_corrector(&self) -> bool
+        ensures { result ≡ (is_corrected self.now.scheme && has_product self.now.checks) }
+    {
+        is_corrected(self.scheme) && has_product(self.checks.as_slice())
+    }
+
+    /// Whether it is a task with correction that has no check of a product.
+    #[tactic(auto, using(crate::proofs::Correctors::has_planned_product))]
+    pub fn lacks_corrector(&self) -> bool
+        ensures { result ≡ (is_corrected self.now.scheme && not (has_product self.now.checks)) }
+    {
+        is_corrected(self.scheme) && !has_product(self.checks.as_slice())
+    }
+}
+
+/// Whether one of the checks is that of a product.
+fn has_product(checks: &[PlannedCheck]) -> bool
+    ensures { result ≡ list_any (λ c. is_product c.spec) checks.now }
+{
+    checks.iter().any(|check| is_product(&check.spec))
+}
+
+fn is_product(spec: &Spec) -> bool
+    ensures { result ≡ is_product spec.now }
+{
+    match spec {
+        Spec::Product { .. } => true,
+        _ => false,
+    }
+}
+
+/// Whether a task of this scheme has its product corrected.
+fn is_corrected(scheme: Scheme) -> bool
+    ensures { result ≡ is_corrected scheme }
+{
+    match scheme {
+        Scheme::Abft => true,
+        Scheme::Plain | Scheme::Replicate | Scheme::Replay { .. } => false,
     }
 }
 
@@ -307,10 +399,15 @@ fn is_owned(promise: &PlannedPromise) -> bool
 }
 
 /// Whether what a `put` uses, of these lengths, does not fit.
-fn is_put_misfit(promise: &PlannedPromise, statement: &Statement, lens: &[u32]) -> bool
+fn is_put_misfit(
+    promise: &PlannedPromise,
+    statement: &Statement,
+    shape: Shape,
+    lens: &[u32],
+) -> bool
     requires uses { 0 < length lens.now }
     requires all { length lens.now ≡ length (facets statement.now).used }
-    ensures { result ≡ (not (slice_index lens.now 0 == promise.now.len) || not ((facets statement.now).fits lens.now)) }
+    ensures { result ≡ (not (slice_index lens.now 0 == promise.now.len) || not ((facets statement.now).fits shape lens.now)) }
 {
-    lens[0] != promise.len || !fits(statement, lens)
+    lens[0] != promise.len || !fits(statement, shape, lens)
 }

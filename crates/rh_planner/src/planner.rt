@@ -1,9 +1,9 @@
 //! Planning a text line by line: its names become numbers.
 
 ghost use Rattle.std.specs.Prelude.{◌≡◌, ◌<◌, ◌≤◌, ◌++◌, ◌∷◌, [], IfOk, OnOk, Some, None, cond, length, map, true, false, not, slice_get, slice_index};
-ghost use Rattle.rh_words.specs.declared.limits.TheConstants.{MAX_PROMISE_WORDS, MAX_NODES};
+ghost use Rattle.rh_words.specs.declared.limits.TheConstants.{MAX_PROMISE_WORDS, MAX_NODES, MAX_MATRIX_SIDE, MAX_CELL_VALUE};
 ghost use Rattle.rh_task_text.specs.declared.statement.Statement.TheVariants as text;
-ghost use Rattle.rh_rules.specs.Facets.{facets, is_built_scheme};
+ghost use Rattle.rh_rules.specs.Facets.{facets, cells_of};
 ghost use Rattle.rh_rules.specs.Limits.{IsWithinLimits};
 ghost use Rattle.rh_rules.specs.Above.{facts_above, planned_scheme, asked_place, group_in, lets_of, task_node, scope_node};
 ghost use Rattle.rh_rules.specs.Rules.{is_bad_scheme, is_unanswered};
@@ -11,21 +11,24 @@ ghost use Rattle.rh_rules.specs.Tables.{is_promise, promise_number, is_put, putt
 ghost use Rattle.rh_planner.specs.Declarations.{declarations};
 ghost use Rattle.rh_planner.specs.Making.{start_reason};
 ghost use Rattle.rh_planner.specs.Planned.{look_above};
-ghost use Rattle.std.specs.List.{list_any};
-ghost use Rattle.rh_planner.specs.States.{HasFacts, HasRoom, IsClosable, Judges};
+ghost use Rattle.std.specs.List.{list_any, AllByRecursion};
+ghost use Rattle.rh_planner.specs.States.{HasFacts, HasRoom, IsClosable, Judges, TakesRow};
 
 use crate::awaiting::{are_distinct, await_locals, find_promises, is_any_unput};
 use crate::blocks::Blocks;
 use crate::declarations::Declared;
 use crate::handed::Handed;
+use crate::matrices::{add_row, close_matrix};
 use crate::node::{group_node, lets_of, scope_node, task_node};
 use crate::open_task::OpenTask;
+use rh_check::Matrices;
 use rh_rules::{
-    Body, CheckList, Node, Numbers, OpenBlock, PlannedCheck, PlannedPromise, Scheme, Step, asked,
-    place_of, spec_of,
+    Body, CheckList, NamedShape, Node, Numbers, OpenBlock, PlannedCheck, PlannedPromise, Scheme,
+    Shape, Step, asked, place_of, spec_of,
 };
+use rh_sparse::{Cell, Matrix};
 use rh_task_text::{SchemeText, Statement};
-use rh_words::limits::MAX_NODES;
+use rh_words::limits::{MAX_MATRICES, MAX_NODES};
 use rh_words::{Name, NameList, OutOfMemory, Reason};
 use std::alloc::Global;
 use std::mem;
@@ -38,6 +41,12 @@ const SCOPE_WORDS: u32 = 3;
 pub struct Planner {
     handed: Handed,
     declared: Declared,
+    /// The matrices by their lines, those that are closed, and the one that is begun.
+    matrices: Vec<NamedShape>,
+    closed: Matrices,
+    begun: Option<Matrix>,
+    /// The cells of the last row.
+    cells: Vec<Cell>,
     nodes: Vec<Node>,
     blocks: Blocks,
     task: OpenTask,
@@ -52,25 +61,34 @@ impl Planner {
         Planner {
             handed,
             declared: Declared::new(alloc),
+            matrices: Vec::new(alloc),
+            closed: Matrices::new(alloc),
+            begun: None,
+            cells: Vec::new(alloc),
             nodes: Vec::new(alloc),
             blocks: Blocks::new(alloc),
             task: OpenTask::none(alloc),
         }
     }
 
-    /// The nodes and the promises.
-    pub fn into_lists(self) -> (Vec<Node>, Vec<PlannedPromise>)
+    /// The nodes, the promises, and the matrices that are closed.
+    pub fn into_lists(self) -> (Vec<Node>, Vec<PlannedPromise>, Matrices)
         ensures nodes { result.0 ≡ self.nodes }
         ensures promises { result.1.items ≡ self.declared.promises }
+        ensures matrices { result.2 ≡ self.closed }
     {
         let Planner {
             handed: _,
             declared,
+            matrices: _,
+            closed,
+            begun: _,
+            cells: _,
             nodes,
             blocks: _,
             task: _,
         } = self;
-        (nodes, declared.into_promises())
+        (nodes, declared.into_promises(), closed)
     }
 
     #[tactic(auto, unfolding(rh_rules::specs::Facets::facets))]
@@ -116,11 +134,10 @@ impl Planner {
     ) -> Result<Option<Reason>, OutOfMemory>
         requires room { HasRoom self.old }
         requires within { IsWithinLimits statement.now }
-        requires built { (facets statement.now).built ≡ true }
         requires makes { (facets statement.now).made ≡ Some x }
         ensures { IfOk result (λ answer. Judges self.old statement.now self.new answer) }
     {
-        self.task.make(alloc, x, statement)
+        self.task.make(alloc, &self.matrices, x, statement)
     }
 
     /// Opens a scope, whose own promise has three words.
@@ -137,8 +154,49 @@ impl Planner {
         }
         self.declared.add_promise(name, SCOPE_WORDS, false, true)?;
         let first = self.nodes.len() as u32;
+        self.begun = None;
         self.blocks.push(OpenBlock::ScopeBlock { name, first })?;
         self.task.clear(alloc);
+        Ok(None)
+    }
+
+    /// Opens a matrix.
+    #[tactic(auto, unfolding(rh_rules::specs::Facets::facets))]
+    fn matrix(
+        &mut self,
+        alloc: Global,
+        name: Name,
+        shape: Shape,
+    ) -> Result<Option<Reason>, OutOfMemory>
+        requires some { 1 ≤ shape.cols }
+        requires few { shape.cols ≤ MAX_MATRIX_SIDE }
+        ensures { IfOk result (λ answer. Judges self.old (text.Matrix name shape.rows shape.cols) self.new answer) }
+    {
+        if self.declared.has(&name) {
+            return Ok(Some(Reason::Twice));
+        }
+        if self.matrices.len() >= MAX_MATRICES {
+            return Ok(Some(Reason::PlanLimit));
+        }
+        self.declared.add_name(name)?;
+        self.matrices.push(NamedShape { name, shape })?;
+        self.begun = Some(Matrix::new(alloc, shape.cols));
+        self.blocks.push(OpenBlock::MatrixBlock)?;
+        self.task.clear(alloc);
+        Ok(None)
+    }
+
+    /// Adds a row to the open matrix.
+    #[tactic(auto, unfolding(rh_rules::specs::Facets::facets))]
+    fn row(&mut self, columns: &[u64], values: &[u64]) -> Result<Option<Reason>, OutOfMemory>
+        requires pairs { length columns.now ≡ length values.now }
+        requires values { AllByRecursion (λ v. v ≤ MAX_CELL_VALUE) values.now }
+        requires row { TakesRow self.old.begun (text.Row columns.now values.now) }
+        ensures { IfOk result (λ answer. Judges self.old (text.Row columns.now values.now) self.new answer) }
+    {
+        if let Some(matrix) = &mut self.begun {
+            add_row(&mut self.cells, matrix, columns, values)?;
+        }
         Ok(None)
     }
 
@@ -184,7 +242,6 @@ impl Planner {
         scheme: SchemeText,
         awaits: &NameList,
     ) -> Result<Option<Reason>, OutOfMemory>
-        requires { is_built_scheme scheme ≡ true }
         ensures { IfOk result (λ answer. Judges self.old (text.Task name scheme awaits.now) self.new answer) }
     {
         let names = awaits.as_slice();
@@ -200,6 +257,7 @@ impl Planner {
         self.task.scheme = planned_scheme(scheme);
         self.task.checks = CheckList::new(alloc);
         self.declared.add_name(name)?;
+        self.begun = None;
         self.blocks.push(OpenBlock::TaskBlock(name))?;
         Ok(None)
     }
@@ -228,6 +286,7 @@ impl Planner {
         let number = self.nodes.len() as u32;
         let node = group_node(alloc, name, inputs, self.blocks.group());
         self.nodes.push(node)?;
+        self.begun = None;
         self.blocks.push(OpenBlock::GroupBlock(number))?;
         self.task.clear(alloc);
         Ok(None)
@@ -244,7 +303,7 @@ impl Planner {
             return Ok(Some(Reason::Unknown));
         };
         let planned = &self.declared.promises()[number as usize];
-        if let Some(reason) = self.task.put_reason(planned, statement)? {
+        if let Some(reason) = self.task.put_reason(&self.matrices, planned, statement)? {
             return Ok(Some(reason));
         }
         self.task.body.push(put_step(number, &self.task.numbers))?;
@@ -260,7 +319,6 @@ impl Planner {
     ) -> Result<Option<Reason>, OutOfMemory>
         requires room { HasRoom self.old }
         requires within { IsWithinLimits statement.now }
-        requires built { (facets statement.now).built ≡ true }
         requires checks { (facets statement.now).checked ≡ Some promise.now }
         ensures { IfOk result (λ answer. Judges self.old statement.now self.new answer) }
     {
@@ -268,13 +326,25 @@ impl Planner {
             return Ok(Some(Reason::Unknown));
         };
         let len = self.declared.promises()[number as usize].len;
-        if let Some(reason) = self.task.check_reason(number, len, statement)? {
+        if let Some(reason) = self
+            .task
+            .check_reason(&self.matrices, number, len, statement)?
+        {
             return Ok(Some(reason));
         }
         let Some(place) = asked_place(&self.handed, statement) else {
             return Ok(Some(Reason::NoCheck));
         };
-        let spec = spec_of(statement, place, &self.task.numbers, len, &self.task.lens);
+        let matrix = self.task.matrix;
+        let spec = spec_of(
+            statement,
+            place,
+            matrix.number,
+            &self.task.numbers,
+            matrix.shape,
+            len,
+            &self.task.lens,
+        );
         let user = self.handed.named(&spec);
         let check = PlannedCheck {
             promise: number,
@@ -291,6 +361,9 @@ impl Planner {
         requires closable { IsClosable self.old.declared.promises self.old.blocks }
         ensures { IfOk result (λ answer. Judges self.old text.End self.new answer) }
     {
+        if self.task.lacks_corrector() {
+            return Ok(Some(Reason::Scheme));
+        }
         let block = self.blocks.pop();
         match &block {
             Some(OpenBlock::TaskBlock(name)) => self.end_task(alloc, *name)?,
@@ -302,6 +375,7 @@ impl Planner {
             }
             _ => {}
         }
+        close_matrix(alloc, &mut self.closed, self.begun.take())?;
         self.task.clear(alloc);
         Ok(None)
     }
@@ -312,6 +386,9 @@ impl Planner {
         ensures blocks { self.new.blocks ≡ self.old.blocks }
         ensures declared { self.new.declared ≡ self.old.declared }
         ensures handed { self.new.handed ≡ self.old.handed }
+        ensures matrices { self.new.matrices ≡ self.old.matrices }
+        ensures closed { self.new.closed ≡ self.old.closed }
+        ensures begun { self.new.begun ≡ self.old.begun }
     {
         let lets = lets_of(alloc, self.task.inputs.as_slice(), &self.task.locals)?;
         let inputs = mem::replace(&mut self.task.inputs, Numbers::new(alloc));
@@ -333,6 +410,9 @@ impl Planner {
         ensures blocks { self.new.blocks ≡ self.old.blocks }
         ensures declared { self.new.declared ≡ declarations self.old.declared.names (put_all (putting name (length self.old.nodes.items) ∷ []) self.old.declared.promises) }
         ensures handed { self.new.handed ≡ self.old.handed }
+        ensures matrices { self.new.matrices ≡ self.old.matrices }
+        ensures closed { self.new.closed ≡ self.old.closed }
+        ensures begun { self.new.begun ≡ self.old.begun }
     {
         let number = self.nodes.len() as u32;
         let own = self.declared.promise(&name).unwrap_or(0);
@@ -354,14 +434,19 @@ impl Planner {
         requires room { HasRoom self.old }
         requires within { IsWithinLimits statement.now }
         requires closable { IsClosable self.old.declared.promises self.old.blocks }
+        requires row { TakesRow self.old.begun statement.now }
         ensures { IfOk result (λ answer. Judges self.old statement.now self.new answer) }
     {
         match statement {
             Statement::Promise { name, len, temp } => self.promise(*name, *len, *temp),
-            Statement::Task {
-                scheme: SchemeText::Abft,
-                ..
-            } => Ok(Some(Reason::NotBuilt)),
+            Statement::Matrix { name, rows, cols } => {
+                let shape = Shape {
+                    rows: *rows as u32,
+                    cols: *cols as u32,
+                };
+                self.matrix(alloc, *name, shape)
+            }
+            Statement::Row { columns, values } => self.row(columns.as_slice(), values.as_slice()),
             Statement::Task {
                 name,
                 scheme,
@@ -384,14 +469,15 @@ impl Planner {
             | Statement::LetSum { x, .. }
             | Statement::LetCount { x, .. }
             | Statement::LetStencil1 { x, .. }
-            | Statement::LetStencil2 { x, .. } => self.make(alloc, *x, statement),
+            | Statement::LetStencil2 { x, .. }
+            | Statement::LetProduct { x, .. } => self.make(alloc, *x, statement),
             Statement::CheckRange { promise, .. }
             | Statement::CheckTotal { promise, .. }
             | Statement::CheckLinear { promise, .. }
             | Statement::CheckConserve { promise, .. }
             | Statement::CheckConserve2 { promise, .. }
+            | Statement::CheckProduct { promise, .. }
             | Statement::CheckUser { promise, .. } => self.check(statement, promise),
-            _ => Ok(Some(Reason::NotBuilt)),
         }
     }
 }

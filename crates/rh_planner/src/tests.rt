@@ -187,7 +187,7 @@ fn stencils_fit_their_sides(rt: HostRuntime) -> Result<(), Fail> {
 
 #[test]
 fn lengths_drops_and_forms_are_judged(rt: HostRuntime) -> Result<(), Fail> {
-    let rows: [(&[u8], u32, u8); 18] = [
+    let rows: [(&[u8], u32, u8); 15] = [
         (b"task b plain await p w\nlet z add p w\nend", 12, 14),
         (b"task b plain await p w\nlet z mul w p\nend", 12, 14),
         (b"task b plain await p\nlet z cut p 2 2\nend", 12, 14),
@@ -218,9 +218,6 @@ fn lengths_drops_and_forms_are_judged(rt: HostRuntime) -> Result<(), Fail> {
             0,
             0,
         ),
-        (b"task b abft\nend", 11, 19),
-        (b"matrix m 1 1\nrow\nend", 11, 19),
-        (b"task b plain await p\nlet z product m p\nend", 12, 19),
         (
             b"task b replay 2 await p\nput q p\ncheck conserve q p p p 1 1\nend",
             0,
@@ -230,6 +227,132 @@ fn lengths_drops_and_forms_are_judged(rt: HostRuntime) -> Result<(), Fail> {
     for (lines, line, reason) in rows {
         assert!(rt; breaks(rt.alloc(), lines, line, reason)?);
     }
+    Ok(())
+}
+
+/// Whether these lines, below a matrix `m` of three rows of three columns on the lines 11 to 15, have this first break.
+fn breaks_below_matrix(
+    alloc: Global,
+    lines: &[u8],
+    line: u32,
+    reason: u8,
+) -> Result<bool, OutOfMemory> {
+    let mut all = Bytes::new(alloc);
+    all.append(b"matrix m 3 3\nrow 0:1 2:5\nrow 1:1\nrow 2:1\nend\n")?;
+    all.append(lines)?;
+    breaks(alloc, all.as_slice(), line, reason)
+}
+
+#[test]
+fn matrices_are_judged(rt: HostRuntime) -> Result<(), Fail> {
+    let rows: [(&[u8], u32, u8); 10] = [
+        (b"matrix a 1 1\nrow\nend", 11, 10),
+        (b"matrix m 1 1\nrow\nend\ntask m plain\nend", 14, 10),
+        (
+            b"matrix m 1 1\nrow\nend\nfinish f\nmatrix m 1 1\nrow\nend\nend",
+            15,
+            10,
+        ),
+        (b"task b plain await p\nlet z product m p\nend", 12, 11),
+        (b"task b plain await p\nlet z product p p\nend", 12, 11),
+        (
+            b"task b replay 2 await p\nput q p\ncheck product q m p\nend",
+            13,
+            11,
+        ),
+        (
+            b"matrix m 1 2\nrow\nend\ntask b plain await p\nlet z product m p\nend",
+            15,
+            14,
+        ),
+        (
+            b"matrix m 1 3\nrow\nend\ntask b plain await p\nlet z product m p\nput q z\nend",
+            16,
+            14,
+        ),
+        (
+            b"matrix m 1 3\nrow\nend\ntask b replay 2 await p\nput q p\ncheck product q m p\nend",
+            16,
+            14,
+        ),
+        (
+            b"matrix m 3 1\nrow\nrow\nrow\nend\ntask b replay 2 await p\nput q p\ncheck product q m p\nend",
+            18,
+            14,
+        ),
+    ];
+    for (lines, line, reason) in rows {
+        assert!(rt; breaks(rt.alloc(), lines, line, reason)?);
+    }
+    Ok(())
+}
+
+#[test]
+fn corrected_tasks_have_one_check_of_a_product(rt: HostRuntime) -> Result<(), Fail> {
+    let rows: [(&[u8], u32, u8); 7] = [
+        (
+            b"task b abft await p\nlet z product m p\nput q z\ncheck range q 0 9\ncheck product q m p\nend",
+            0,
+            0,
+        ),
+        (
+            b"finish f\ntask b abft await p\nput q p\ncheck product q m p\nend\nend",
+            0,
+            0,
+        ),
+        (
+            b"task b abft await p\nput q p\ncheck product q m p\ncheck product q m p\nend",
+            19,
+            15,
+        ),
+        (
+            b"task b replay 2 await p\nput q p\ncheck product q m p\ncheck product q m p\nend",
+            0,
+            0,
+        ),
+        (b"task b abft await p\nput q p\nend", 18, 15),
+        (
+            b"task b abft await p\nput q p\ncheck range q 0 9\nend",
+            19,
+            15,
+        ),
+        (
+            b"task b plain await p\nput q p\ncheck product q m p\nend",
+            18,
+            15,
+        ),
+    ];
+    for (lines, line, reason) in rows {
+        assert!(rt; breaks_below_matrix(rt.alloc(), lines, line, reason)?);
+    }
+    Ok(())
+}
+
+#[test]
+fn matrices_have_their_limit(rt: HostRuntime) -> Result<(), Fail> {
+    let lines: (&[u8], &[u8], &[u8], &[u8]) = (b"", b"matrix m", b" 1 1\nrow\nend\n", b"");
+    assert!(rt; repeats(rt.alloc(), lines, 256, (0, 0))?);
+    assert!(rt; repeats(rt.alloc(), lines, 257, (770, 17))?);
+    Ok(())
+}
+
+/// Whether there are two matrices, of one row and of two rows.
+fn has_two_matrices(drafts: &Drafts) -> bool {
+    let rows = &drafts.matrices;
+    rows.rows_at(0) == 1 && rows.rows_at(1) == 2 && rows.rows_at(2) == 0
+}
+
+#[test]
+fn matrices_have_their_rows(rt: HostRuntime) -> Result<(), Fail> {
+    let mut text = Bytes::new(rt.alloc());
+    text.append(
+        b"rhc 1\nmatrix l 1 1\nrow\nend\nfinish f\nmatrix m 2 9\nrow 0:1 8:2\nrow 7:3\nend\nend\n",
+    )?;
+    let is_so = match plan(rt.alloc(), text.as_slice()) {
+        Ok(drafts) => has_two_matrices(&drafts),
+        Err(_) => false,
+    };
+    assert!(rt; is_so);
     Ok(())
 }
 

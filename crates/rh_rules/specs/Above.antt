@@ -1,10 +1,13 @@
 -- What the statements above a line say of it. They are listed with the nearest first.
 use Rattle.std.specs.Prelude.{ℕ, ◌+◌, ◌-◌, List, [], ◌∷◌, ◌++◌, Bool, Option, Some, None, map, length, drop, sum, option_to_list, unwrap_or, slice_index, slice_get, cond, not, ◌&&◌, zero, suc, option_and_then}
 use Rattle.std.specs.List.{range_with_len}
+use Rattle.std.specs.Option.{option_map}
 use Rattle.rh_task_text.specs.declared.statement.Statement.{Statement}
 use Rattle.rh_task_text.specs.declared.statement.Statement.TheVariants as text
 use Rattle.rh_task_text.specs.declared.statement.SchemeText.{SchemeText}
 use Rattle.rh_task_text.specs.declared.statement.SchemeText.TheVariants as texts
+use Rattle.rh_sparse.specs.declared.matrix.Cell.{Cell}
+use Rattle.rh_sparse.specs.Matrix.{MatrixData, matrix_data}
 use Rattle.rh_rules.specs.declared.block.OpenBlock.{OpenBlock}
 use Rattle.rh_rules.specs.declared.block.OpenBlock.TheVariants.{TaskBlock, MatrixBlock, GroupBlock, ScopeBlock}
 use Rattle.rh_check.specs.declared.spec.Spec.{Spec}
@@ -16,9 +19,11 @@ use Rattle.rh_rules.specs.declared.node.Kind.TheVariants as kinds
 use Rattle.rh_rules.specs.declared.node.Scheme.{Scheme}
 use Rattle.rh_rules.specs.declared.node.Scheme.TheVariants as schemes
 use Rattle.rh_rules.specs.declared.node.PlannedPromise.{PlannedPromise}
-use Rattle.rh_rules.specs.Tables.{LocalName, local, Putting, putting, put_all, number_of, lens_of, promise_number, promise_len}
-use Rattle.rh_rules.specs.Facets.{Opens, Closes, Stays, facets}
+use Rattle.rh_rules.specs.declared.shape.Shape.{Shape}
+use Rattle.rh_rules.specs.declared.shape.NamedShape.{NamedShape}
 use Rattle.rh_rules.specs.Bodies.{promises_put}
+use Rattle.rh_rules.specs.Tables.{LocalName, local, Putting, putting, put_all, number_of, lens_of, promise_number, promise_len, matrix_number, matrix_shape, no_shape}
+use Rattle.rh_rules.specs.Facets.{Opens, Closes, Stays, facets}
 use Rattle.rh_rules.specs.Kept.{KeptCheck}
 
 -- What a line looks at beside those above it: an await list at the promises of the whole text where it may point forward, a check at the
@@ -114,6 +119,49 @@ abbrev pub promises_above : List Statement → List PlannedPromise
 promises_above [] = []
 promises_above (s ∷ above) = put_all (puts_by (nodes_counted above) (blocks_above above) s) (promises_above above) ++ option_to_list (facets s).promised
 
+-- The matrices, each with its shape, in the order of their `matrix` lines. A matrix's number is its place.
+abbrev pub matrices_above : List Statement → List NamedShape
+matrices_above [] = []
+matrices_above (s ∷ above) = matrices_above above ++ option_to_list (facets s).shaped
+
+-- a matrix of this shape that has no rows yet
+abbrev pub no_rows : NamedShape → MatrixData
+no_rows m = matrix_data m.shape.cols []
+
+-- the matrix with one row more, where a line adds one
+abbrev pub with_row : Option (List Cell) → MatrixData → MatrixData
+with_row None a = a
+with_row (Some row) a = matrix_data a.cols (a.rows ++ row ∷ [])
+
+-- the open matrix, with the rows that it has so far
+abbrev pub begun_above : List Statement → Option MatrixData
+begun_above [] = None
+begun_above (s ∷ above) = elim ((facets s).turn) [
+  | Opens ↦ option_map no_rows (facets s).shaped
+  | Closes ↦ None
+  | Stays ↦ option_map (with_row (facets s).row) (begun_above above)
+]
+
+-- the matrix that a line closes, where this one is open
+abbrev pub closed_by : Option MatrixData → Statement → List MatrixData
+closed_by begun s = elim ((facets s).turn) [
+  | Opens ↦ []
+  | Closes ↦ option_to_list begun
+  | Stays ↦ []
+]
+
+-- the matrices that are closed, with their rows, by number
+abbrev pub closed_above : List Statement → List MatrixData
+closed_above [] = []
+closed_above (s ∷ above) = closed_above above ++ closed_by (begun_above above) s
+
+-- the number and the shape of the matrix that a line names, where it names one
+abbrev pub matrix_used : List NamedShape → Statement → ℕ
+matrix_used ms s = unwrap_or (option_map (matrix_number ms) (facets s).matrix) 0
+
+abbrev pub shape_used : List NamedShape → Statement → Shape
+shape_used ms s = unwrap_or (option_map (matrix_shape ms) (facets s).matrix) no_shape
+
 -- the numbers and the lengths of the locals that a line uses
 abbrev pub numbers_used : List LocalName → Statement → List ℕ
 numbers_used ls s = map (number_of ls) (facets s).used
@@ -126,12 +174,12 @@ abbrev pub lens_read : List LocalName → Statement → List ℕ
 lens_read ls s = map (λ i. slice_index (lens_of ls) i) (map (number_of ls) (facets s).inputs)
 
 -- how many words the local has that a line makes
-abbrev pub made_len : List LocalName → Statement → ℕ
-made_len ls s = (facets s).len (lens_used ls s)
+abbrev pub made_len : List NamedShape → List LocalName → Statement → ℕ
+made_len ms ls s = (facets s).len (shape_used ms s) (lens_used ls s)
 
 -- the local that a line makes
-abbrev pub local_made : List LocalName → Statement → List LocalName
-local_made ls s = map (λ x. local x (made_len ls s)) (option_to_list (facets s).made)
+abbrev pub local_made : List NamedShape → List LocalName → Statement → List LocalName
+local_made ms ls s = map (λ x. local x (made_len ms ls s)) (option_to_list (facets s).made)
 
 -- the local that is the copy of an awaited promise
 abbrev pub await_local : List PlannedPromise → List ℕ → LocalName
@@ -143,7 +191,7 @@ locals_above look [] = []
 locals_above look (s ∷ above) = elim ((facets s).turn) [
   | Opens ↦ map (await_local (seen look (promises_above above))) (facets s).task_awaits
   | Closes ↦ []
-  | Stays ↦ locals_above look above ++ local_made (locals_above look above) s
+  | Stays ↦ locals_above look above ++ local_made (matrices_above above) (locals_above look above) s
 ]
 
 -- the numbers of the promises that the open task awaits
@@ -192,12 +240,12 @@ abbrev pub check_of : HandedChecks → ℕ → Spec → KeptCheck
 check_of handed promise spec = record { promise = promise; spec = spec; user = user_named handed.specs spec }
 
 -- what the check of a line asks
-abbrev pub spec_asked : HandedChecks → List LocalName → Statement → Spec
-spec_asked handed ls s = (facets s).spec (asked_place handed s) (map (number_of ls) (facets s).inputs)
+abbrev pub spec_asked : HandedChecks → List NamedShape → List LocalName → Statement → Spec
+spec_asked handed ms ls s = (facets s).spec (asked_place handed s) (matrix_used ms s) (map (number_of ls) (facets s).inputs)
 
 -- the planned checks of a line, one at most
-abbrev pub checks_by : Look → List PlannedPromise → List LocalName → Statement → List KeptCheck
-checks_by look ps ls s = map (λ q. check_of look.handed (promise_number ps q) (spec_asked look.handed ls s)) (option_to_list (facets s).checked)
+abbrev pub checks_by : Look → List PlannedPromise → List NamedShape → List LocalName → Statement → List KeptCheck
+checks_by look ps ms ls s = map (λ q. check_of look.handed (promise_number ps q) (spec_asked look.handed ms ls s)) (option_to_list (facets s).checked)
 
 -- the checks of the open task
 abbrev pub checks_above : Look → List Statement → List KeptCheck
@@ -205,7 +253,7 @@ checks_above look [] = []
 checks_above look (s ∷ above) = elim ((facets s).turn) [
   | Opens ↦ []
   | Closes ↦ []
-  | Stays ↦ checks_above look above ++ checks_by look (promises_above above) (locals_above look above) s
+  | Stays ↦ checks_above look above ++ checks_by look (promises_above above) (matrices_above above) (locals_above look above) s
 ]
 
 -- a `put` of the first of these locals, on the second where there is one
@@ -217,9 +265,9 @@ abbrev pub drop_step : List ℕ → List LocalName → List ℕ → Step
 drop_step inputs ls promise = steps.DropAwait (slice_index inputs (number_of ls promise))
 
 -- the planned steps of a line, one at most
-abbrev pub steps_by : List PlannedPromise → List ℕ → List LocalName → Statement → List Step
-steps_by ps inputs ls s =
-    option_to_list ((facets s).step (numbers_used ls s))
+abbrev pub steps_by : List PlannedPromise → List NamedShape → List ℕ → List LocalName → Statement → List Step
+steps_by ps ms inputs ls s =
+    option_to_list ((facets s).step (matrix_used ms s) (numbers_used ls s))
     ++ map (put_step ps (numbers_used ls s)) (option_to_list (facets s).put_to)
     ++ map (drop_step inputs ls) (option_to_list (facets s).dropped)
 
@@ -229,7 +277,7 @@ steps_above look [] = []
 steps_above look (s ∷ above) = elim ((facets s).turn) [
   | Opens ↦ []
   | Closes ↦ []
-  | Stays ↦ steps_above look above ++ steps_by (promises_above above) (inputs_above look above) (locals_above look above) s
+  | Stays ↦ steps_above look above ++ steps_by (promises_above above) (matrices_above above) (inputs_above look above) (locals_above look above) s
 ]
 
 -- the names of the results of the `let` lines: of the locals behind the inputs
@@ -251,6 +299,10 @@ pub record Facts : Type 0 where
   -- the names that are declared
   pub names : List (List ℕ)
   pub promises : List PlannedPromise
+  -- the matrices by their shapes, those that are closed, and the open one
+  pub matrices : List NamedShape
+  pub closed : List MatrixData
+  pub begun : Option MatrixData
   -- the open blocks, the innermost first
   pub blocks : List OpenBlock
   -- how many nodes there are
@@ -283,6 +335,9 @@ abbrev pub facts_with : Look → List Statement → List Node → Facts
 facts_with look above nodes = record {
   names = names_above above;
   promises = promises_above above;
+  matrices = matrices_above above;
+  closed = closed_above above;
+  begun = begun_above above;
   blocks = blocks_above above;
   count = nodes_counted above;
   nodes = nodes;

@@ -4,13 +4,9 @@ use Rattle.std.specs.List.{AllByRecursion}
 use Rattle.std.specs.Option.{option_map}
 use Rattle.rh_words.specs.declared.limits.TheConstants.{MAX_PROMISE_WORDS, MAX_SHIFT, MAX_PARTS}
 use Rattle.rh_sparse.specs.Matrix.{MatrixData}
+use Rattle.rh_rules.specs.declared.shape.Shape.{Shape}
 use Rattle.rh_rules.specs.declared.body.Step.{Step}
 use Rattle.rh_rules.specs.declared.body.Step.TheVariants.{Lit, Gen, Add, Sub, Mul, Scale, Shift, Cut, Join, Sum, Count, Stencil1, Stencil2, Product, Put, DropAwait}
-
--- how many rows and columns a matrix has
-pub record Shape : Type 0 where
-  pub rows : ℕ
-  pub cols : ℕ
 
 abbrev pub shapes_of : List MatrixData → List Shape
 shapes_of matrices = map (λ a. record { rows = length a.rows; cols = a.cols }) matrices

@@ -4,14 +4,16 @@ use Rattle.std.specs.List.{list_all}
 use Rattle.rh_task_text.specs.declared.statement.Statement.{Statement}
 use Rattle.rh_task_text.specs.declared.statement.Statement.TheVariants as text
 use Rattle.rh_task_text.specs.declared.statement.SchemeText.{SchemeText}
-use Rattle.rh_task_text.specs.declared.statement.SchemeText.TheVariants.{Plain, Replicate, Replay, Abft}
+use Rattle.rh_sparse.specs.declared.matrix.Cell.{Cell}
 use Rattle.rh_check.specs.declared.spec.Term.{Term}
 use Rattle.rh_check.specs.declared.spec.Spec.{Spec}
 use Rattle.rh_check.specs.declared.spec.Spec.TheVariants as specs
 use Rattle.rh_rules.specs.declared.body.Step.{Step}
 use Rattle.rh_rules.specs.declared.body.Step.TheVariants as steps
 use Rattle.rh_rules.specs.declared.node.PlannedPromise.{PlannedPromise}
-use Rattle.rh_rules.specs.Tables.{declared_promise}
+use Rattle.rh_rules.specs.declared.shape.Shape.{Shape}
+use Rattle.rh_rules.specs.declared.shape.NamedShape.{NamedShape}
+use Rattle.rh_rules.specs.Tables.{declared_promise, named_shape}
 
 -- how a statement changes the block that is open
 pub data Turn : Type 0 where
@@ -20,13 +22,14 @@ pub data Turn : Type 0 where
   Stays : Turn
 
 pub record Facets : Type 0 where
-  -- it is of a form that is planned
-  pub built : Bool
   pub turn : Turn
   -- the name that it declares: of a promise, matrix, task, group or scope
   pub declared : Option (List ℕ)
   -- the promise that it declares: a scope has one of three words
   pub promised : Option PlannedPromise
+  -- the matrix that it declares, and the row that it adds to the open one
+  pub shaped : Option NamedShape
+  pub row : Option (List Cell)
   -- its await list
   pub awaited : List (List ℕ)
   -- the names that a task awaits, which are its first locals
@@ -36,11 +39,13 @@ pub record Facets : Type 0 where
   pub made : Option (List ℕ)
   -- the locals that it uses
   pub used : List (List ℕ)
-  -- by the lengths of these: whether they fit, and how long the local is that is made
-  pub fits : List ℕ → Bool
-  pub len : List ℕ → ℕ
-  -- by the numbers of these: the planned step of a `let`
-  pub step : List ℕ → Option Step
+  -- the matrix that it names
+  pub matrix : Option (List ℕ)
+  -- by the shape of that matrix and by the lengths of those locals: whether they fit, and how long the local is that is made
+  pub fits : Shape → List ℕ → Bool
+  pub len : Shape → List ℕ → ℕ
+  -- by the number of that matrix and by the numbers of those locals: the planned step of a `let`
+  pub step : ℕ → List ℕ → Option Step
   -- the promise that a `put` puts, and the await that a `drop` drops
   pub put_to : Option (List ℕ)
   pub dropped : Option (List ℕ)
@@ -49,10 +54,10 @@ pub record Facets : Type 0 where
   pub inputs : List (List ℕ)
   -- the handed-in check that a check names
   pub asked : Option (List ℕ)
-  -- by the place of that among the handed-in checks, and by the numbers of the awaits: what a check asks
-  pub spec : ℕ → List ℕ → Spec
-  -- by the length of that promise and by the lengths of those awaits: whether they fit
-  pub suits : ℕ → List ℕ → Bool
+  -- by the place of that among the handed-in checks, by the number of the matrix, and by the numbers of the awaits: what a check asks
+  pub spec : ℕ → ℕ → List ℕ → Spec
+  -- by the shape of the matrix, by the length of that promise and by the lengths of those awaits: whether they fit
+  pub suits : Shape → ℕ → List ℕ → Bool
 
 -- of a line that is no check
 abbrev pub asks_nothing : List ℕ → Spec
@@ -60,46 +65,44 @@ asks_nothing ns = specs.Total 0
 
 abbrev pub nothing : Facets
 nothing = record {
-  built = true;
   turn = Stays;
   declared = None;
   promised = None;
+  shaped = None;
+  row = None;
   awaited = [];
   task_awaits = [];
   scheme = None;
   made = None;
   used = [];
-  fits = λ ls. true;
-  len = λ ls. 0;
-  step = λ ns. None;
+  matrix = None;
+  fits = λ shape ls. true;
+  len = λ shape ls. 0;
+  step = λ matrix ns. None;
   put_to = None;
   dropped = None;
   checked = None;
   inputs = [];
   asked = None;
-  spec = λ at ns. asks_nothing ns;
-  suits = λ n ls. true;
+  spec = λ at matrix ns. asks_nothing ns;
+  suits = λ shape n ls. true;
 }
-
--- a form that is not planned yet
-abbrev pub not_built : Facets → Facets
-not_built f = record f { built = false }
 
 -- a `let`: its name, the locals that it uses, whether their lengths fit, its length by theirs, and its step by their numbers
 abbrev pub makes : List ℕ → List (List ℕ) → (List ℕ → Bool) → (List ℕ → ℕ) → (List ℕ → Step) → Facets
-makes x used fits len step = record nothing { made = Some x; used = used; fits = fits; len = len; step = λ ns. Some (step ns) }
+makes x used fits len step = record nothing { made = Some x; used = used; fits = λ shape ls. fits ls; len = λ shape ls. len ls; step = λ matrix ns. Some (step ns) }
 
 -- a check: the promise that it judges, the awaits that it reads, and what it asks by their numbers
 abbrev pub checks : List ℕ → List (List ℕ) → (List ℕ → Spec) → Facets
-checks promise inputs spec = record nothing { checked = Some promise; inputs = inputs; spec = λ at ns. spec ns }
+checks promise inputs spec = record nothing { checked = Some promise; inputs = inputs; spec = λ at matrix ns. spec ns }
 
 -- a check of promises whose lengths fit
 abbrev pub fitting : Facets → (ℕ → List ℕ → Bool) → Facets
-fitting f suits = record f { suits = suits }
+fitting f suits = record f { suits = λ shape n ls. suits n ls }
 
 -- a check that asks a handed-in one
 abbrev pub asks : List ℕ → List ℕ → Facets
-asks promise check = record nothing { checked = Some promise; asked = Some check; spec = λ at ns. specs.User at }
+asks promise check = record nothing { checked = Some promise; asked = Some check; spec = λ at matrix ns. specs.User at }
 
 -- the sum of an input times a factor
 abbrev pub term : ℕ → ℕ → Term
@@ -138,18 +141,21 @@ are_equal ls = first ls == second ls
 abbrev pub are_sides : ℕ → List ℕ → Bool
 are_sides cols ls = slice_index ls 0 == cols && (slice_index ls 1 == cols && (slice_index ls 2 == slice_index ls 3 && slice_index ls 2 * cols == slice_index ls 4))
 
--- tasks of this scheme are planned
-abbrev pub is_built_scheme : SchemeText → Bool
-is_built_scheme Plain = true
-is_built_scheme Replicate = true
-is_built_scheme (Replay limit) = true
-is_built_scheme Abft = false
+-- a cell in this column
+abbrev pub cell : ℕ → ℕ → Cell
+cell col value = record { col = col; value = value }
+
+-- the cells of columns and values, pair by pair
+abbrev pub cells_of : List ℕ → List ℕ → List Cell
+cells_of [] values = []
+cells_of (j ∷ columns) [] = []
+cells_of (j ∷ columns) (v ∷ values) = cell j v ∷ cells_of columns values
 
 unfoldable pub facets : Statement → Facets
 facets (text.Promise name len temp) = record nothing { declared = Some name; promised = Some (declared_promise name len temp false) }
-facets (text.Matrix name rows cols) = not_built (record nothing { turn = Opens; declared = Some name })
-facets (text.Row columns values) = not_built nothing
-facets (text.Task name scheme awaits) = record nothing { built = is_built_scheme scheme; turn = Opens; declared = Some name; awaited = awaits; task_awaits = awaits; scheme = Some scheme }
+facets (text.Matrix name rows cols) = record nothing { turn = Opens; declared = Some name; shaped = Some (named_shape name rows cols) }
+facets (text.Row columns values) = record nothing { row = Some (cells_of columns values) }
+facets (text.Task name scheme awaits) = record nothing { turn = Opens; declared = Some name; awaited = awaits; task_awaits = awaits; scheme = Some scheme }
 facets (text.Finish name) = record nothing { turn = Opens; declared = Some name; promised = Some (declared_promise name 3 false true) }
 facets (text.Group name awaits) = record nothing { turn = Opens; declared = Some name; awaited = awaits }
 facets text.End = record nothing { turn = Closes }
@@ -167,8 +173,15 @@ facets (text.LetCount x a) = makes x (a ∷ []) always one_word (λ ns. steps.Co
 facets (text.LetStencil1 x l m r k s) = makes x (l ∷ m ∷ r ∷ []) always second (λ ns. steps.Stencil1 (first ns) (second ns) (slice_index ns 2) k s)
 facets (text.LetStencil2 x north south west east m cols k s) = makes x (north ∷ south ∷ west ∷ east ∷ m ∷ []) (are_sides cols) (λ ls. slice_index ls 4)
     (λ ns. steps.Stencil2 (first ns) (second ns) (slice_index ns 2) (slice_index ns 3) (slice_index ns 4) cols k s)
-facets (text.LetProduct x a v) = not_built (record nothing { made = Some x; used = v ∷ [] })
-facets (text.Put promise local when) = record nothing { used = local ∷ option_to_list when; fits = λ ls. list_all (λ n. n == 1) (drop 1 ls); put_to = Some promise }
+facets (text.LetProduct x a v) = record nothing {
+  made = Some x;
+  used = v ∷ [];
+  matrix = Some a;
+  fits = λ shape ls. first ls == shape.cols;
+  len = λ shape ls. shape.rows;
+  step = λ matrix ns. Some (steps.Product matrix (first ns));
+}
+facets (text.Put promise local when) = record nothing { used = local ∷ option_to_list when; fits = λ shape ls. list_all (λ n. n == 1) (drop 1 ls); put_to = Some promise }
 facets (text.DropAwait promise) = record nothing { dropped = Some promise }
 facets (text.CheckRange promise lo hi) = checks promise [] (λ ns. specs.Range lo hi)
 facets (text.CheckTotal promise total) = checks promise [] (λ ns. specs.Total total)
@@ -176,5 +189,11 @@ facets (text.CheckLinear promise base inputs factors) = checks promise inputs (�
 facets (text.CheckConserve promise l m r k s) = fitting (checks promise (l ∷ m ∷ r ∷ []) (λ ns. specs.Conserve (first ns) (second ns) (slice_index ns 2) k s)) (λ n ls. n == second ls)
 facets (text.CheckConserve2 promise north south west east m cols k s) = fitting (checks promise (north ∷ south ∷ west ∷ east ∷ m ∷ [])
     (λ ns. specs.Conserve2 (first ns) (second ns) (slice_index ns 2) (slice_index ns 3) (slice_index ns 4) cols k s)) (λ n ls. n == slice_index ls 4 && are_sides cols ls)
-facets (text.CheckProduct promise a q) = not_built (checks promise (q ∷ []) asks_nothing)
+facets (text.CheckProduct promise a q) = record nothing {
+  checked = Some promise;
+  inputs = q ∷ [];
+  matrix = Some a;
+  spec = λ at matrix ns. specs.Product matrix (first ns);
+  suits = λ shape n ls. n == shape.rows && first ls == shape.cols;
+}
 facets (text.CheckUser promise check) = asks promise check

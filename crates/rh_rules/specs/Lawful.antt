@@ -1,6 +1,6 @@
 -- What holds of the nodes and promises that are planned, beside what the text says of them.
 use Rattle.std.specs.Prelude.{ℕ, ◌≡◌, ◌<◌, ◌≤◌, ◌+◌, ◌↔◌, List, [], ◌∷◌, ◌++◌, Bool, Option, Some, None, ⊤, true, false, filter, length, map, slice_get, slice_index, slice_index_or, IsSomeAnd, is_some, nat_eq, option_and_then, take}
-use Rattle.std.specs.List.{AllByRecursion, IsDistinct}
+use Rattle.std.specs.List.{AllByRecursion, IsDistinct, list_any}
 use Rattle.std.specs.Str.{bytes_eq}
 use Rattle.rh_words.specs.Naming.{is_name}
 use Rattle.rh_words.specs.declared.limits.TheConstants.{MAX_NODES, MAX_PROMISES, MAX_PROMISE_WORDS, MAX_TOTAL_WORDS, MAX_SHOWN_WORDS, MAX_AWAITS, MAX_LETS, MAX_CHECKS, MAX_TERMS, MAX_SHIFT}
@@ -15,7 +15,8 @@ use Rattle.rh_rules.specs.declared.node.Scheme.TheVariants.{Plain, Replicate, Re
 use Rattle.rh_rules.specs.declared.node.PlannedPromise.{PlannedPromise}
 use Rattle.rh_rules.specs.Kept.{KeptCheck}
 use Rattle.rh_rules.specs.Tables.{is_in}
-use Rattle.rh_rules.specs.Bodies.{Shape, HasWords, AreHalos, AreSoundSteps, lens_at, lens_after_all, promises_put, drops_of}
+use Rattle.rh_rules.specs.declared.shape.Shape.{Shape}
+use Rattle.rh_rules.specs.Bodies.{HasWords, AreHalos, AreSoundSteps, lens_at, lens_after_all, promises_put, drops_of}
 use Rattle.rh_rules.specs.Above.{words_in, shown_in}
 
 -- how many words each promise has
@@ -63,6 +64,10 @@ is_product (User at) = false
 abbrev pub product_checks : List KeptCheck → List KeptCheck
 product_checks checks = filter (λ c. is_product c.spec) checks
 
+-- one of the checks is that of a product
+abbrev pub has_product : List KeptCheck → Bool
+has_product checks = list_any (λ c. is_product c.spec) checks
+
 -- A replayed task has 1 to 8 attempts, a task with correction has one check of a product, and a plain or replicated task has no checks.
 abbrev pub IsLawfulScheme : Node → Scheme → Type 0
 IsLawfulScheme node Plain = node.checks ≡ []
@@ -82,7 +87,7 @@ names_at promises numbers = map (λ q. slice_index_or (map (λ p. p.name) promis
 abbrev pub local_names : List PlannedPromise → Node → List (List ℕ)
 local_names promises node = names_at promises node.awaits ++ node.lets
 
--- A task's steps are sound, its puts and drops are those of its steps, its locals are few and short, and each has a name of its own.
+-- A task's steps are sound, its puts and drops are those of its steps, its locals are few and short, and each has a name of its own. It has no members.
 pub record IsLawfulTask (shapes : List Shape) (promises : List PlannedPromise) (node : Node) : Type 0 where
   pub sound : AreSoundSteps shapes (promise_lens promises) (input_lens promises node) node.body
   pub puts : node.puts ≡ promises_put node.body
@@ -95,10 +100,24 @@ pub record IsLawfulTask (shapes : List Shape) (promises : List PlannedPromise) (
   pub all_named : length node.awaits + length node.lets ≡ length (local_lens shapes promises node)
   pub lets_named : AllByRecursion (λ n. is_name n ≡ true) node.lets
   pub names_once : IsDistinct bytes_eq (local_names promises node)
+  pub members : node.members ≡ []
+
+-- a node that is no task: it has no steps, no checks and no scheme but `plain`
+pub record IsBodiless (node : Node) : Type 0 where
+  pub body : node.body ≡ []
+  pub checks : node.checks ≡ []
+  pub lets : node.lets ≡ []
+  pub scheme : node.scheme ≡ Plain
+
+-- a group puts nothing, and has no members
+pub record IsLawfulGroup (node : Node) : Type 0 where
+  pub bodiless : IsBodiless node
+  pub puts : node.puts ≡ []
+  pub members : node.members ≡ []
 
 -- a scope awaits nothing, puts one promise of three words, and has each member once
 pub record IsLawfulScope (promises : List PlannedPromise) (node : Node) : Type 0 where
-  pub body : node.body ≡ []
+  pub bodiless : IsBodiless node
   pub awaits : node.awaits ≡ []
   pub own : (q : ℕ) × (node.puts ≡ q ∷ []) × (slice_index (promise_lens promises) q ≡ 3)
   pub members_once : IsDistinct nat_eq node.members
@@ -106,7 +125,7 @@ pub record IsLawfulScope (promises : List PlannedPromise) (node : Node) : Type 0
 -- what a node has by its kind
 abbrev pub IsLawfulKind : List Shape → List PlannedPromise → Node → Kind → Type 0
 IsLawfulKind shapes promises node Task = IsLawfulTask shapes promises node
-IsLawfulKind shapes promises node Group = (node.body ≡ []) × (node.puts ≡ [])
+IsLawfulKind shapes promises node Group = IsLawfulGroup node
 IsLawfulKind shapes promises node Scope = IsLawfulScope promises node
 
 -- the enclosing group is a group that stands above

@@ -1,13 +1,15 @@
 -- What the grammar's limits give of a statement alone.
 use Rattle.std.specs.Prelude.{ℕ, ◌≡◌, ◌≤◌, ◌<◌, ◌^◌, ⊤, length}
 use Rattle.std.specs.List.{AllByRecursion}
-use Rattle.rh_words.specs.declared.limits.TheConstants.{MAX_PROMISE_WORDS, MAX_AWAITS, MAX_SHIFT, MAX_PARTS, MAX_TERMS}
+use Rattle.rh_words.specs.declared.limits.TheConstants.{MAX_PROMISE_WORDS, MAX_AWAITS, MAX_SHIFT, MAX_PARTS, MAX_TERMS, MAX_MATRIX_SIDE, MAX_CELL_VALUE}
 use Rattle.rh_task_text.specs.declared.statement.Statement.{Statement}
-use Rattle.rh_task_text.specs.declared.statement.Statement.TheVariants.{Promise, Task, Group, LetLit, LetGen, LetShift, LetCut, LetJoin, LetStencil1, LetStencil2, CheckLinear, CheckConserve, CheckConserve2}
+use Rattle.rh_task_text.specs.declared.statement.Statement.TheVariants.{Promise, Matrix, Row, Task, Group, LetLit, LetGen, LetShift, LetCut, LetJoin, LetStencil1, LetStencil2, CheckLinear, CheckConserve, CheckConserve2}
 
 -- the numbers and lists of the statement are within the limits of the grammar
 abbrev pub IsWithinLimits : Statement → Type 0
 IsWithinLimits (Promise name len temp) = (1 ≤ len) × (len ≤ MAX_PROMISE_WORDS)
+IsWithinLimits (Matrix name rows cols) = (1 ≤ rows) × (rows ≤ MAX_MATRIX_SIDE) × (1 ≤ cols) × (cols ≤ MAX_MATRIX_SIDE)
+IsWithinLimits (Row columns values) = (length columns ≡ length values) × AllByRecursion (λ v. v ≤ MAX_CELL_VALUE) values
 IsWithinLimits (Task name scheme awaits) = length awaits ≤ MAX_AWAITS
 IsWithinLimits (Group name awaits) = length awaits ≤ MAX_AWAITS
 IsWithinLimits (LetLit x words) = (0 < length words) × (length words ≤ MAX_PROMISE_WORDS) × AllByRecursion (λ w. w < 2 ^ 64) words

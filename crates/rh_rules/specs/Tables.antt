@@ -1,9 +1,11 @@
--- Locals and promises, and how they are looked up by name.
+-- Locals, promises and matrices, and how they are looked up by name.
 use Rattle.std.specs.Prelude.{ℕ, ◌==◌, List, [], ◌∷◌, Bool, false, Option, Some, None, map, unwrap_or, slice_index, slice_get, position, is_some, option_and_then, cond}
 use Rattle.std.specs.List.{list_any}
 use Rattle.std.specs.Option.{option_map}
 use Rattle.std.specs.Str.{bytes_eq}
 use Rattle.rh_rules.specs.declared.node.PlannedPromise.{PlannedPromise}
+use Rattle.rh_rules.specs.declared.shape.Shape.{Shape}
+use Rattle.rh_rules.specs.declared.shape.NamedShape.{NamedShape}
 
 -- a local: a name, and how many words it has
 pub record LocalName : Type 0 where
@@ -16,6 +18,10 @@ local name len = record { name = name; len = len }
 -- a promise as its line declares it, with no putter
 abbrev pub declared_promise : List ℕ → ℕ → Bool → Bool → PlannedPromise
 declared_promise name len temp scope = record { name = name; len = len; putter = None; temp = temp; scope = scope }
+
+-- a matrix by its line: its name, and how many rows and columns it has
+abbrev pub named_shape : List ℕ → ℕ → ℕ → NamedShape
+named_shape name rows cols = record { name = name; shape = record { rows = rows; cols = cols } }
 
 -- a promise that a line puts, and the number of the node that this line is in
 pub record Putting : Type 0 where
@@ -68,6 +74,23 @@ promise_number promises name = unwrap_or (promise_at name promises) 0
 -- how many words the promise has
 abbrev pub promise_len : List PlannedPromise → List ℕ → ℕ
 promise_len promises name = unwrap_or (option_map (λ p. p.len) (promise_named promises name)) 0
+
+-- the place of a name among matrices, which is the number of the matrix
+abbrev pub matrix_at : List ℕ → List NamedShape → Option ℕ
+matrix_at name matrices = position (λ m. bytes_eq m.name name) matrices
+
+abbrev pub is_matrix : List NamedShape → List ℕ → Bool
+is_matrix matrices name = is_some (matrix_at name matrices)
+
+abbrev pub matrix_number : List NamedShape → List ℕ → ℕ
+matrix_number matrices name = unwrap_or (matrix_at name matrices) 0
+
+-- the shape of no matrix
+abbrev pub no_shape : Shape
+no_shape = record { rows = 0; cols = 0 }
+
+abbrev pub matrix_shape : List NamedShape → List ℕ → Shape
+matrix_shape matrices name = unwrap_or (option_map (λ m. m.shape) (option_and_then (λ i. slice_get matrices i) (matrix_at name matrices))) no_shape
 
 -- some node puts the promise
 abbrev pub is_put : List PlannedPromise → List ℕ → Bool

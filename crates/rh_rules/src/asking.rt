@@ -3,8 +3,10 @@
 ghost use Rattle.std.specs.Prelude.{◌≡◌, ◌≤◌, ◌++◌, length, slice_index, OnOk, true};
 ghost use Rattle.rh_rules.specs.Facets.{facets, sixteen_terms};
 ghost use Rattle.rh_rules.specs.Limits.{IsWithinLimits};
+ghost use Rattle.rh_rules.specs.Rules.{asks_product};
 
 use crate::facets::are_sides;
+use crate::shape::Shape;
 use rh_check::{Spec, Term};
 use rh_task_text::Statement;
 use rh_words::{Name, OutOfMemory};
@@ -12,7 +14,6 @@ use rh_words::{Name, OutOfMemory};
 /// Adds the names of the awaits that the check reads.
 #[tactic(auto, unfolding(crate::specs::Facets::facets))]
 pub fn list_inputs(statement: &Statement, names: &mut Vec<Name>) -> Result<(), OutOfMemory>
-    requires { (facets statement.now).built ≡ true }
     ensures { OnOk result (names.new.items ≡ names.old.items ++ (facets statement.now).inputs) }
 {
     match statement {
@@ -26,6 +27,7 @@ pub fn list_inputs(statement: &Statement, names: &mut Vec<Name>) -> Result<(), O
             m,
             ..
         } => Ok(names.extend_from_slice(&[*north, *south, *west, *east, *m])?),
+        Statement::CheckProduct { q, .. } => Ok(names.push(*q)?),
         _ => Ok(()),
     }
 }
@@ -41,28 +43,49 @@ pub fn asked(statement: &Statement) -> Option<Name>
     }
 }
 
-/// Whether the promise of this length and the awaits of these fit the check.
+/// Whether the line is a check of a product.
 #[tactic(auto, unfolding(crate::specs::Facets::facets))]
-pub fn suits(statement: &Statement, len: u32, lens: &[u32]) -> bool
-    requires { length lens.now ≡ length (facets statement.now).inputs }
-    ensures { result ≡ (facets statement.now).suits len lens.now }
+pub fn asks_product(statement: &Statement) -> bool
+    ensures { result ≡ asks_product statement.now }
 {
     match statement {
+        Statement::CheckProduct { .. } => true,
+        _ => false,
+    }
+}
+
+/// Whether the promise of this length and the awaits of these fit the check, which names a matrix of this shape, where it
+/// names one.
+#[tactic(auto, unfolding(crate::specs::Facets::facets))]
+pub fn suits(statement: &Statement, shape: Shape, len: u32, lens: &[u32]) -> bool
+    requires { length lens.now ≡ length (facets statement.now).inputs }
+    ensures { result ≡ (facets statement.now).suits shape len lens.now }
+{
+    match statement {
+        Statement::CheckProduct { .. } => len == shape.rows && lens[0] == shape.cols,
         Statement::CheckConserve { .. } => len == lens[1],
         Statement::CheckConserve2 { cols, .. } => len == lens[4] && are_sides(*cols, lens),
         _ => true,
     }
 }
 
-/// What the check asks, by the place of the handed-in check that it names and by the numbers of the awaits that it reads. The
-/// lengths are those of the promise and of the awaits.
+/// What the check asks, by the place of the handed-in check and the number of the matrix that it names, and by the numbers of
+/// the awaits that it reads. The lengths are those of the promise and of the awaits.
 #[tactic(auto, unfolding(crate::specs::Facets::facets))]
-pub fn spec_of(statement: &Statement, at: u32, inputs: &[u32], len: u32, lens: &[u32]) -> Spec
+pub fn spec_of(
+    statement: &Statement,
+    at: u32,
+    matrix: u32,
+    inputs: &[u32],
+    shape: Shape,
+    len: u32,
+    lens: &[u32],
+) -> Spec
     requires read { length inputs.now ≡ length (facets statement.now).inputs }
     requires lens { length lens.now ≡ length (facets statement.now).inputs }
     requires within { IsWithinLimits statement.now }
-    requires fitting { (facets statement.now).suits len lens.now ≡ true }
-    ensures { result ≡ (facets statement.now).spec at inputs.now }
+    requires fitting { (facets statement.now).suits shape len lens.now ≡ true }
+    ensures { result ≡ (facets statement.now).spec at matrix inputs.now }
 {
     match statement {
         Statement::CheckRange { lo, hi, .. } => Spec::Range { lo: *lo, hi: *hi },
@@ -73,6 +96,10 @@ pub fn spec_of(statement: &Statement, at: u32, inputs: &[u32], len: u32, lens: &
             count: inputs.len() as u8,
         },
         Statement::CheckUser { .. } => Spec::User { at },
+        Statement::CheckProduct { .. } => Spec::Product {
+            matrix,
+            x: inputs[0],
+        },
         Statement::CheckConserve { k, s, .. } => Spec::Conserve {
             l: inputs[0],
             m: inputs[1],

@@ -5,6 +5,7 @@ ghost use Rattle.rh_rules.specs.Facets.{facets, are_sides};
 ghost use Rattle.rh_rules.specs.Limits.{IsWithinLimits};
 
 use crate::body::Step;
+use crate::shape::Shape;
 use rh_task_text::Statement;
 use rh_words::{Name, OutOfMemory, Words};
 use std::alloc::Global;
@@ -74,11 +75,23 @@ fn list_two(a: &Name, b: &Name, names: &mut Vec<Name>) -> Result<(), OutOfMemory
     Ok(())
 }
 
-/// Whether the locals that the statement uses fit it, by their lengths.
+/// The name of the matrix that the statement names.
 #[tactic(auto, unfolding(crate::specs::Facets::facets))]
-pub fn fits(statement: &Statement, lens: &[u32]) -> bool
+pub fn matrix_named(statement: &Statement) -> Option<Name>
+    ensures { result ≡ (facets statement.now).matrix }
+{
+    match statement {
+        Statement::LetProduct { a, .. } | Statement::CheckProduct { a, .. } => Some(*a),
+        _ => None,
+    }
+}
+
+/// Whether the locals that the statement uses fit it, by their lengths and the shape of the matrix that it names, where it
+/// names one.
+#[tactic(auto, unfolding(crate::specs::Facets::facets))]
+pub fn fits(statement: &Statement, shape: Shape, lens: &[u32]) -> bool
     requires { length lens.now ≡ length (facets statement.now).used }
-    ensures { result ≡ (facets statement.now).fits lens.now }
+    ensures { result ≡ (facets statement.now).fits shape lens.now }
 {
     match statement {
         Statement::LetAdd { .. } | Statement::LetSub { .. } | Statement::LetMul { .. } => {
@@ -89,6 +102,7 @@ pub fn fits(statement: &Statement, lens: &[u32]) -> bool
             *len <= all && *from <= all - *len
         }
         Statement::LetStencil2 { cols, .. } => are_sides(*cols, lens),
+        Statement::LetProduct { .. } => lens[0] == shape.cols,
         Statement::Put { .. } => lens[1..].iter().all(|n| *n == 1),
         _ => true,
     }
@@ -105,12 +119,13 @@ pub(crate) fn are_sides(cols: u64, lens: &[u32]) -> bool
         && u128::from(lens[2]) * u128::from(cols) == u128::from(lens[4])
 }
 
-/// How many words the local has that the statement makes, by the lengths of those that it uses.
+/// How many words the local has that the statement makes, by the lengths of those that it uses and the shape of the matrix that
+/// it names.
 #[tactic(auto, unfolding(crate::specs::Facets::facets))]
-pub fn made_len(statement: &Statement, lens: &[u32]) -> u64
+pub fn made_len(statement: &Statement, shape: Shape, lens: &[u32]) -> u64
     requires used { length lens.now ≡ length (facets statement.now).used }
     requires within { IsWithinLimits statement.now }
-    ensures { result ≡ (facets statement.now).len lens.now }
+    ensures { result ≡ (facets statement.now).len shape lens.now }
 {
     match statement {
         Statement::LetLit { words, .. } => words.as_slice().len() as u64,
@@ -125,6 +140,7 @@ pub fn made_len(statement: &Statement, lens: &[u32]) -> u64
         Statement::LetSum { .. } | Statement::LetCount { .. } => 1,
         Statement::LetStencil1 { .. } => u64::from(lens[1]),
         Statement::LetStencil2 { .. } => u64::from(lens[4]),
+        Statement::LetProduct { .. } => u64::from(shape.rows),
         _ => 0,
     }
 }
@@ -140,20 +156,22 @@ fn sum_of(lens: &[u32]) -> u64
     total
 }
 
-/// The planned step of a `let`, by the numbers and the lengths of the locals that it uses.
+/// The planned step of a `let`, by the numbers of the matrix and the locals that it uses. The shape and the lengths are theirs.
 #[tactic(auto, unfolding(crate::specs::Facets::facets))]
 pub fn step_of(
     alloc: Global,
     statement: &Statement,
+    matrix: u32,
     numbers: &[u32],
+    shape: Shape,
     lens: &[u32],
 ) -> Result<Option<Step>, OutOfMemory>
     requires used { length numbers.now ≡ length (facets statement.now).used }
     requires lens { length lens.now ≡ length (facets statement.now).used }
     requires within { IsWithinLimits statement.now }
-    requires fitting { (facets statement.now).fits lens.now ≡ true }
-    requires short { (facets statement.now).len lens.now ≤ 4096 }
-    ensures { IfOk result (λ step. step ≡ (facets statement.now).step numbers.now) }
+    requires fitting { (facets statement.now).fits shape lens.now ≡ true }
+    requires short { (facets statement.now).len shape lens.now ≤ 4096 }
+    ensures { IfOk result (λ step. step ≡ (facets statement.now).step matrix numbers.now) }
 {
     let step = match statement {
         Statement::LetLit { words, .. } => Step::Lit {
@@ -199,6 +217,10 @@ pub fn step_of(
         Statement::LetStencil2 { cols, k, s, .. } => {
             stencil2_step(numbers, *cols as u32, *k, *s as u32)
         }
+        Statement::LetProduct { .. } => Step::Product {
+            matrix,
+            v: numbers[0],
+        },
         _ => return Ok(None),
     };
     Ok(Some(step))

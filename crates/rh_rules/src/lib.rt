@@ -11,12 +11,14 @@ mod facets;
 mod local;
 mod node;
 mod numbers;
+mod shape;
 
-pub use asking::{asked, list_inputs, spec_of, suits};
+pub use asking::{asked, asks_product, list_inputs, spec_of, suits};
 pub use block::OpenBlock;
 pub use body::{Body, Step};
 pub use checks::{CheckList, PlannedCheck};
-pub use facets::{fits, list_used, made, made_len, step_of};
+pub use facets::{fits, list_used, made, made_len, matrix_named, step_of};
 pub use local::{Local, place_of};
 pub use node::{Kind, Node, PlannedPromise, Scheme};
 pub use numbers::Numbers;
+pub use shape::{NamedShape, Shape};

@@ -5,3 +5,4 @@ pub mod Replaying
 pub mod Checkings
 pub mod Correctings
 pub mod Restorings
+pub mod Votes

@@ -1,7 +1,8 @@
--- The vote over two or three buffers.
-use Rattle.std.specs.Prelude.{Option, Some, None, if◌then◌else◌}
+-- The vote over two or three buffers, and what it decides.
+use Rattle.std.specs.Prelude.{ℕ, ◌≡◌, List, [], ◌∷◌, Option, Some, None, slice_get, if◌then◌else◌}
 use Rattle.rh_plan.specs.Buffers.{BufferData}
-use Rattle.rh_plan.specs.Judging.{are_same}
+use Rattle.rh_plan.specs.declared.outcome.Verdict.TheVariants.{Accepted, Failed}
+use Rattle.rh_plan.specs.Judging.{NodeResult, are_same, replicated, tolerated}
 use Rattle.rh_schemes.specs.declared.ballot.Vote.{Vote}
 use Rattle.rh_schemes.specs.declared.ballot.Vote.TheVariants.{Kept, More, Split}
 
@@ -16,3 +17,14 @@ vote_on a b (Some c) = third_vote a b c
 -- two equal buffers keep the first
 abbrev pub voted : BufferData → BufferData → Option BufferData → Vote
 voted a b c = if are_same a b then Kept 0 else vote_on a b c
+
+-- of these buffers that of attempt j is accepted
+abbrev pub IsAcceptedOf : List BufferData → ℕ → NodeResult → Type 0
+IsAcceptedOf made j r = (r.verdict ≡ Accepted j) × (r.accepted ≡ slice_get made j)
+
+-- The attempt that a vote keeps is the one that is accepted of a replicated task, whatever the third buffer is where two decide. A task
+-- whose three buffers split the vote fails.
+pub record VotesDecide : Type 0 where
+  pub two_keep : (a b c : BufferData) (j : ℕ) → voted a b None ≡ Kept j → IsAcceptedOf (a ∷ b ∷ c ∷ []) j (replicated tolerated (a ∷ b ∷ c ∷ []))
+  pub three_keep : (a b c : BufferData) (j : ℕ) → voted a b (Some c) ≡ Kept j → IsAcceptedOf (a ∷ b ∷ c ∷ []) j (replicated tolerated (a ∷ b ∷ c ∷ []))
+  pub three_split : (a b c : BufferData) → voted a b (Some c) ≡ Split → (replicated tolerated (a ∷ b ∷ c ∷ [])).verdict ≡ Failed

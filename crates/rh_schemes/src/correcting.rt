@@ -19,8 +19,8 @@ use rh_sparse::{Checksums, Correction, correct};
 use rh_words::{Inputs, OutOfMemory, Words};
 use std::alloc::Global;
 
-/// Restores the one word that was altered of the put that the first check of a product reads, and answers its place. Where there is no
-/// such check, put or word, the buffer stays.
+/// Restores the one word that was altered of the put that the first check of a product reads, and answers its place, or `None`
+/// where there is no such check, put or word.
 pub(crate) fn restore<I: Inputs>(
     alloc: Global,
     checks: &[PlannedCheck],

@@ -47,6 +47,30 @@ pub fn replicate<I: Inputs, C: Checks, G: Gate>(
         let trials = [Trial::Accepted, Trial::Agreed];
         return accepted(alloc, 0, &trials, first);
     }
+    with_third(
+        alloc, worker, plan, node, inputs, faults, gate, first, second,
+    )
+}
+
+/// Makes the third attempt of a replicated task whose first two differ, which decides.
+fn with_third<I: Inputs, G: Gate>(
+    alloc: Global,
+    worker: u32,
+    plan: &Plan,
+    node: u32,
+    inputs: &I,
+    faults: &Faults,
+    gate: &G,
+    first: Buffer,
+    second: Buffer,
+) -> Result<NodeResult, OutOfMemory>
+    requires task { IsTaskOn plan.now node (I.lists inputs.now) }
+    requires scheme { HasScheme plan.now node Replicate }
+    requires made { IsAttemptAt plan.now faults.now node (I.lists inputs.now) 0 first }
+    requires made_again { IsAttemptAt plan.now faults.now node (I.lists inputs.now) 1 second }
+    requires differ { are_same first second ≡ false }
+    ensures { IfOk result (λ r. JudgesAs plan.now faults.now node (I.lists inputs.now) r) }
+{
     let third = gated(alloc, worker, plan, node, 2, inputs, faults, gate)?;
     third_decides(alloc, first, second, third)
 }

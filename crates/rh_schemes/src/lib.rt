@@ -16,7 +16,7 @@ mod voting;
 pub use ballot::Vote;
 pub use gate::{Gate, OpenGate};
 pub use judging::{abft, judge, replay, replicate};
-pub use laws::three_replicas_decide_by_the_table;
+pub use laws::{three_replicas_decide_by_the_table, votes_decide};
 pub use result::{NodeResult, Trials};
 pub use serial::{Judge, Serial};
 pub use voting::vote;

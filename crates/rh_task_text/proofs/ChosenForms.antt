@@ -1,18 +1,15 @@
 -- The words of a statement choose its form.
-use Rattle.std.proofs.Common.{◌≡◌, ◌≤◌, ℕ, List, [], ◌∷◌, Some, None, Bool, true, false, length, slice_index_or, refl, ap, sym, ◌∙◌, subst, arith}
-use Rattle.std.specs.Prelude.{codes, ◌&&◌}
-use Rattle.rh_words.specs.declared.value.Place.{Place}
-use Rattle.rh_words.specs.Places.{agrees, passes_word}
+use Rattle.std.proofs.Common.{◌≡◌, ℕ, List, [], ◌∷◌, Some, None, refl, ap}
+use Rattle.std.specs.Prelude.{codes}
 use Rattle.rh_task_text.specs.declared.statement.SchemeText.TheVariants.{Plain, Replicate, Replay, Abft}
 use Rattle.rh_task_text.specs.declared.statement.Statement.{Statement}
 use Rattle.rh_task_text.specs.declared.statement.Statement.TheVariants.{Promise, Matrix, Row, Task, Finish, Group, End, LetLit, LetGen, LetAdd, LetSub, LetMul, LetScale, LetShift, LetCut, LetJoin, LetSum, LetCount, LetStencil1, LetStencil2, LetProduct, Put, DropAwait, CheckRange, CheckTotal, CheckLinear, CheckConserve, CheckConserve2, CheckProduct, CheckUser}
 use Rattle.rh_words.specs.declared.value.Value.{Value}
-use Rattle.rh_task_text.specs.declared.form.FormKind.{FormKind}
 use Rattle.rh_task_text.specs.Forms.{Form, form}
 use Rattle.rh_words.specs.Values.{SayWords}
 use Rattle.rh_task_text.specs.Statements.{said, kind_of, Spells, FitForm}
 use Rattle.rh_task_text.proofs.FormsOfStatements.{shaped}
-use Rattle.rh_task_text.specs.LineReasons.{kind_chosen, kind_among, IsThirdWord}
+use Rattle.rh_task_text.specs.LineReasons.{kind_chosen}
 use Rattle.rh_words.specs.Text.{SaysNothing}
 
 pub kind_said : (s : Statement) (ws : List (List ℕ)) → SayWords ws (said s) → kind_chosen ws ≡ Some (kind_of s)
@@ -69,20 +66,3 @@ nothing_spelled ((b ∷ bs) ∷ ws) s nothing spelled =
     let a = kind_said s ((b ∷ bs) ∷ ws) spelled.0 in
     let c = comment_chooses bs ws in
     let d : kind_chosen ((b ∷ bs) ∷ ws) ≡ kind_chosen ((35 ∷ bs) ∷ ws) = ap (λ (n : ℕ). kind_chosen ((n ∷ bs) ∷ ws)) nothing in cc
-
--- the rows for a byte are those for an equal one
-pub from_byte : (byte n : ℕ) (rows : List FormKind) → byte ≡ n → ((bs : List ℕ) (ws : List (List ℕ)) → kind_chosen ((n ∷ bs) ∷ ws) ≡ kind_among rows ((n ∷ bs) ∷ ws)) → (bs : List ℕ) (ws : List (List ℕ)) → kind_chosen ((byte ∷ bs) ∷ ws) ≡ kind_among rows ((byte ∷ bs) ∷ ws)
-from_byte byte n rows is same bs ws = subst (λ (b : ℕ). kind_chosen ((b ∷ bs) ∷ ws) ≡ kind_among rows ((b ∷ bs) ∷ ws)) (sym is) (same bs ws)
-
-third_false : (a b x c : Bool) → x ≡ false → (a && (b && (x && c))) ≡ false
-third_false true true x c e = rw e refl
-third_false true false x c e = refl
-third_false false b x c e = refl
-
--- words whose third is not the third place's own do not agree
-pub third_differs : (choice : List Place) (d : Place) (ws : List (List ℕ)) (word : List ℕ) → 3 ≤ length choice → passes_word (slice_index_or choice 2 d) word ≡ false → IsThirdWord ws word → false ≡ agrees choice ws
-third_differs [] d ws word long other third = absurd (omega arith)
-third_differs (p ∷ []) d ws word long other third = absurd (omega arith)
-third_differs (p ∷ q ∷ []) d ws word long other third = absurd (omega arith)
-third_differs (p ∷ q ∷ r ∷ choice) d ws word long other (first, second, rest, is) =
-    sym (ap (λ (l : List (List ℕ)). agrees (p ∷ q ∷ r ∷ choice) l) is ∙ third_false (passes_word p first) (passes_word q second) (passes_word r word) (agrees choice rest) other)

@@ -17,7 +17,8 @@ use Rattle.rh_task_text.specs.LineReasons.{words_reason, statement_reason}
 use Rattle.rh_task_text.specs.Program.{ProgramText, version_text, IsReason, Reads, FirstBad, upward}
 use Rattle.rh_task_text.specs.ReaderStates.{AddsLine}
 use Rattle.rh_task_text.proofs.StatementReasons.{words-none}
-use Rattle.rh_task_text.proofs.Prefixes.{IsBegun, begun-header, begun-line, begun-bad, begun-open, begun-end, header-bad, no_lines-bad}
+use Rattle.rh_task_text.specs.ReaderStates.{IsBegun}
+use Rattle.rh_task_text.proofs.Prefixes.{begun-header, begun-line, begun-bad, begun-open, begun-end, header-bad, no_lines-bad}
 
 abbrev Decided : Type 0 → Type 0
 Decided P = P ⊎ (P → ⊥)

@@ -14,12 +14,13 @@ use Rattle.rh_task_text.specs.declared.statement.Statement.{Statement}
 use Rattle.rh_task_text.specs.declared.statement.Item.{Item}
 use Rattle.rh_task_text.specs.Statements.{kind_of}
 use Rattle.rh_task_text.specs.Blocks.{open_blocks, innermost, rows_here, ends_nothing}
-use Rattle.rh_task_text.specs.LineReasons.{statement_reason}
+use Rattle.rh_task_text.specs.LineReasons.{kind_chosen, reason_in, statement_reason}
 use Rattle.rh_task_text.specs.LineReadings.{StandsIn, IsRead, IsRefusedIn}
 use Rattle.rh_task_text.specs.Program.{ProgramText, FirstBad, IsReason, IsLawful, upward}
 use Rattle.rh_words.specs.Refusals.{OnRefused, fault_at}
 use Rattle.rh_task_text.proofs.LawfulLines.{spelled_lawful}
-use Rattle.rh_task_text.proofs.Prefixes.{IsBegun, begun-bad}
+use Rattle.rh_task_text.specs.ReaderStates.{IsBegun}
+use Rattle.rh_task_text.proofs.Prefixes.{begun-bad}
 
 -- a test that answered false
 pub out_of_false : (b : Bool) (P : Type 0) → IsTrue b ↔ P → b ≡ false → P → ⊥
@@ -62,3 +63,10 @@ refused_line above line here rows reason at count printable says refused =
         | inr long ↦ inr (long.statement, long.spelled, long.unreasoned, limit_at above long.statement reason long.continues long.over long.is)
       ],
     )
+
+-- a statement that was read and is over its limits is the reason of its line
+pub limited_line : (above : List Statement) (line : List ℕ) (here : Option Block) (rows : ℕ) (k : FormKind) (s : Statement) (reason : Reason) → here ≡ innermost (open_blocks above) → rows ≡ rows_here above → is_printable line ≡ true → (SaysNothing (words_of line) → ⊥) → IsRead here rows (words_of line) k s → statement_reason above s ≡ Some reason → IsReason above line reason
+limited_line above line here rows k s reason at count printable says read refused =
+    let placed = subst (λ (b : Option Block). reason_in b rows (words_of line) (kind_chosen (words_of line)) ≡ None) at read.unreasoned in
+    let none = subst (λ (n : ℕ). reason_in (innermost (open_blocks above)) n (words_of line) (kind_chosen (words_of line)) ≡ None) count placed in
+    inr (printable, says, inr (s, read.spelled, none, refused))

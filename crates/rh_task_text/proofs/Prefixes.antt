@@ -13,7 +13,7 @@ use Rattle.rh_task_text.specs.declared.statement.Item.{Item}
 use Rattle.rh_task_text.specs.Blocks.{open_blocks, Stands}
 use Rattle.rh_task_text.specs.LineReasons.{statement_reason}
 use Rattle.rh_task_text.specs.Program.{version_text, upward, IsItem, IsBody, IsProgram, IsReason, Reads, Begins, FirstBad, IsFirstLine}
-use Rattle.rh_task_text.specs.ReaderStates.{AddsLine}
+use Rattle.rh_task_text.specs.ReaderStates.{AddsLine, IsBegun}
 use Rattle.rh_task_text.specs.Statements.{Spells}
 use Rattle.rh_task_text.proofs.StatementsOfForms.{Spells-same}
 use Rattle.rh_task_text.proofs.StatementReasons.{words-spelled}
@@ -30,15 +30,6 @@ items_same done items its body other =
 -- a text begins with fewer of the lines
 Begins-front : (lines more : List (List ℕ)) → BeginsLines (lines ++ more) → BeginsLines lines
 Begins-front lines more (rest, items, program) = (more ++ rest, items, subst (λ (ls : List (List ℕ)). IsProgram ls items) (append_assoc lines more rest) program)
-
--- The lines up to this number are read, and these lines are left.
-pub record IsBegun (bytes : List ℕ) (number : ℕ) (left : List (List ℕ)) (items : List Item) : Type 0 where
-  pub first : List ℕ
-  pub done : List (List ℕ)
-  pub whole : lines_of bytes ≡ first ∷ (done ++ left)
-  pub header : IsFirstLine first
-  pub body : IsBody [] 2 done items
-  pub count : number ≡ 2 + length done
 
 pub begun-header : (bytes : List ℕ) (first : List ℕ) (left : List (List ℕ)) → lines_of bytes ≡ first ∷ left → IsFirstLine first → IsBegun bytes 2 left []
 begun-header bytes first left whole header = record { first = first; done = []; whole = whole; header = header; body = refl; count = refl }

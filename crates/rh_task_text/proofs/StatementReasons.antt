@@ -13,7 +13,7 @@ use Rattle.rh_words.specs.Values.{SayWords}
 use Rattle.rh_task_text.specs.Statements.{said, Spells, FitForm, kind_of, States}
 use Rattle.rh_task_text.specs.Blocks.{open_blocks, innermost, may_stand, rows_fit, rows_here, Stands}
 use Rattle.rh_task_text.specs.LineReasons.{kind_chosen, form_reason, or_else, reason_in, words_reason}
-use Rattle.rh_task_text.specs.LineReadings.{StandsIn, IsRead}
+use Rattle.rh_task_text.specs.LineReadings.{StandsIn, SaysForm, IsRead}
 use Rattle.rh_words.proofs.WordsInPlaces.{fitted, unreasoned}
 use Rattle.rh_task_text.proofs.FormsOfStatements.{stated, shaped}
 use Rattle.rh_task_text.proofs.ChosenForms.{kind_said}
@@ -93,10 +93,10 @@ rows_out here rows ws k chosen stands none out = ap (λ (o : Option FormKind). r
 pub unreasoned_in : (here : Option Block) (rows : ℕ) (ws : List (List ℕ)) (k : FormKind) → kind_chosen ws ≡ Some k → may_stand (form k).standing here ≡ true → rows_fit rows here k ≡ true → form_reason (form k) ws ≡ None → reason_in here rows ws (kind_chosen ws) ≡ None
 unreasoned_in here rows ws k chosen stands fit none = ap (λ (o : Option FormKind). reason_in here rows ws o) chosen ∙ rw (stands, none, fit) refl
 
-pub read_as : (here : Option Block) (rows : ℕ) (ws : List (List ℕ)) (k : FormKind) (vs : List Value) (s : Statement) → kind_chosen ws ≡ Some k → may_stand (form k).standing here ≡ true → rows_fit rows here k ≡ true → SayWords ws vs → FitForm (form k) vs → States k vs s → IsRead here rows ws k s
-read_as here rows ws k vs s chosen stands fit says fits states = record {
-  spelled = (subst (λ (l : List Value). SayWords ws l) (sym states.0) says, states.1);
+pub read_as : (here : Option Block) (rows : ℕ) (ws : List (List ℕ)) (k : FormKind) (vs : List Value) (s : Statement) → SaysForm here rows ws k vs → States k vs s → IsRead here rows ws k s
+read_as here rows ws k vs s read states = record {
+  spelled = (subst (λ (l : List Value). SayWords ws l) (sym states.0) read.says, states.1);
   kind_is = states.2;
-  stands = subst (λ (j : FormKind). StandsIn here rows j) (sym states.2) (stands, fit);
-  unreasoned = reason-fits here rows ws k vs chosen says fits (stands, fit);
+  stands = subst (λ (j : FormKind). StandsIn here rows j) (sym states.2) read.stands;
+  unreasoned = reason-fits here rows ws k vs read.chosen read.says read.fits read.stands;
 }

@@ -4,7 +4,9 @@ use Rattle.rh_task_text.specs.declared.form.Block.{Block}
 use Rattle.rh_task_text.specs.declared.form.FormKind.{FormKind}
 use Rattle.rh_task_text.specs.declared.statement.Statement.{Statement}
 use Rattle.rh_task_text.specs.Forms.{form}
-use Rattle.rh_task_text.specs.Statements.{Spells, kind_of}
+use Rattle.rh_words.specs.declared.value.Value.{Value}
+use Rattle.rh_words.specs.Values.{SayWords}
+use Rattle.rh_task_text.specs.Statements.{Spells, FitForm, kind_of}
 use Rattle.rh_words.specs.declared.reason.Reason.{Reason}
 use Rattle.rh_words.specs.declared.reason.Reason.TheVariants.{Limit}
 use Rattle.rh_task_text.specs.Blocks.{may_stand, rows_fit, ends_nothing}
@@ -14,6 +16,13 @@ use Rattle.rh_task_text.specs.LineReasons.{kind_chosen, reason_in}
 -- the form may stand here, with this row or end
 abbrev pub StandsIn : Option Block → ℕ → FormKind → Type 0
 StandsIn here rows k = (may_stand (form k).standing here ≡ true) × (rows_fit rows here k ≡ true)
+
+-- the words are of this form, which may stand here, and say these values
+pub record SaysForm (here : Option Block) (rows : ℕ) (ws : List (List ℕ)) (k : FormKind) (vs : List Value) : Type 0 where
+  pub chosen : kind_chosen ws ≡ Some k
+  pub stands : StandsIn here rows k
+  pub says : SayWords ws vs
+  pub fits : FitForm (form k) vs
 
 -- the words are read so
 pub record IsRead (here : Option Block) (rows : ℕ) (ws : List (List ℕ)) (k : FormKind) (s : Statement) : Type 0 where

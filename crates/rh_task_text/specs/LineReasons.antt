@@ -1,5 +1,5 @@
 -- The form of a line's words, and the reasons that they give.
-use Rattle.std.specs.Prelude.{◌≡◌, ℕ, List, ◌∷◌, Option, Some, None, not, if◌then◌else◌, find}
+use Rattle.std.specs.Prelude.{ℕ, List, ◌∷◌, Option, Some, None, not, if◌then◌else◌, find}
 use Rattle.rh_words.specs.declared.reason.Reason.{Reason}
 use Rattle.rh_words.specs.declared.reason.Reason.TheVariants.{Statement as BadStatement, Count, EndExtra, Limit}
 use Rattle.rh_words.specs.declared.value.Place.TheVariants.{WordPlace}
@@ -16,17 +16,9 @@ use Rattle.rh_words.specs.Places.{agrees, places_reason}
 abbrev pub form_reason : Form → List (List ℕ) → Option Reason
 form_reason f ws = places_reason (WordPlace f.first ∷ f.places) f.more f.again ws
 
--- the first of these forms that the words agree with
-abbrev pub kind_among : List FormKind → List (List ℕ) → Option FormKind
-kind_among rows ws = find (λ k. agrees (WordPlace (form k).first ∷ (form k).choice) ws) rows
-
--- the word is the third of these
-abbrev pub IsThirdWord : List (List ℕ) → List ℕ → Type 0
-IsThirdWord ws word = (first : List ℕ) × (second : List ℕ) × (rest : List (List ℕ)) × (ws ≡ first ∷ second ∷ word ∷ rest)
-
 -- The form of the words is the first of the table that they agree with.
 unfoldable pub kind_chosen : List (List ℕ) → Option FormKind
-kind_chosen ws = kind_among kinds ws
+kind_chosen ws = find (λ k. agrees (WordPlace (form k).first ∷ (form k).choice) ws) kinds
 
 abbrev pub or_else : Option Reason → Option Reason → Option Reason
 or_else (Some r) o = Some r

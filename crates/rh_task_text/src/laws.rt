@@ -23,6 +23,11 @@ pub fn a_text_is_read_in_one_way()
     ensures { (bytes : List ℕ) (a b : ProgramText) → Reads bytes a → Reads bytes b → a ≡ b }
 {}
 
+/// What is read is a lawful text.
+pub fn read_texts_are_lawful()
+    ensures { (bytes : List ℕ) (text : ProgramText) → Reads bytes text → IsLawfulText text }
+{}
+
 /// What is read has no first bad line.
 pub fn read_texts_have_no_bad_line()
     ensures { (bytes : List ℕ) (text : ProgramText) (line : ℕ) (reason : Reason) → Reads bytes text → FirstBad bytes line reason → ⊥ }

@@ -1,8 +1,12 @@
 //! The limits of statements.
 
-ghost use Rattle.std.specs.Prelude.{◌≡◌, ◌&&◌, nat_lt, nat_le, length};
+ghost use Rattle.std.specs.Prelude.{◌≡◌, ◌&&◌, Option, nat_lt, nat_le, length};
 ghost use Rattle.std.specs.List.{list_all};
 ghost use Rattle.rh_task_text.specs.Limits.{own_limits, has_room, is_size, is_side, is_row, ascend, ascend_from, columns_here};
+ghost use Rattle.rh_words.specs.declared.keyword.Keyword.TheVariants.{LetWord, CheckWord};
+ghost use Rattle.rh_task_text.specs.declared.form.Block.{Block};
+ghost use Rattle.rh_task_text.specs.Forms.{form};
+ghost use Rattle.rh_task_text.specs.Statements.{kind_of};
 
 use crate::form::Block;
 use crate::statement::Statement;
@@ -40,32 +44,73 @@ pub fn own_limits(here: Option<Block>, statement: &Statement) -> bool
         Statement::Task { awaits, .. } | Statement::Group { awaits, .. } => {
             awaits.len() <= MAX_AWAITS
         }
+        Statement::LetLit { .. }
+        | Statement::LetGen { .. }
+        | Statement::LetAdd { .. }
+        | Statement::LetSub { .. }
+        | Statement::LetMul { .. }
+        | Statement::LetScale { .. }
+        | Statement::LetShift { .. }
+        | Statement::LetCut { .. }
+        | Statement::LetJoin { .. }
+        | Statement::LetSum { .. }
+        | Statement::LetCount { .. }
+        | Statement::LetStencil1 { .. }
+        | Statement::LetStencil2 { .. }
+        | Statement::LetProduct { .. } => let_limits(statement),
+        Statement::CheckRange { .. }
+        | Statement::CheckTotal { .. }
+        | Statement::CheckLinear { .. }
+        | Statement::CheckConserve { .. }
+        | Statement::CheckConserve2 { .. }
+        | Statement::CheckProduct { .. }
+        | Statement::CheckUser { .. } => check_limits(statement),
+        Statement::Finish { .. }
+        | Statement::End { .. }
+        | Statement::Put { .. }
+        | Statement::DropAwait { .. } => true,
+    }
+}
+
+/// Whether the numbers and lists of a `let` are within their limits.
+#[tactic(auto, using(crate::proofs::TaskForms::tasks_begin))]
+fn let_limits(statement: &Statement) -> bool
+    requires { (form (kind_of statement.now)).first ≡ LetWord }
+    ensures { (here : Option Block) → result ≡ own_limits here statement.now }
+{
+    match statement {
         Statement::LetLit { words, .. } => words.as_slice().len() as u64 <= MAX_PROMISE_WORDS,
         Statement::LetGen { n, limit, .. } => is_size(*n) && 0 < *limit,
         Statement::LetCut { len, .. } => 0 < *len,
         Statement::LetJoin { parts, .. } => parts.len() <= MAX_PARTS,
-        Statement::LetShift { s, .. }
-        | Statement::LetStencil1 { s, .. }
-        | Statement::CheckConserve { s, .. } => *s <= MAX_SHIFT,
-        Statement::LetStencil2 { cols, s, .. } | Statement::CheckConserve2 { cols, s, .. } => {
-            0 < *cols && *s <= MAX_SHIFT
-        }
-        Statement::CheckLinear { inputs, .. } => inputs.len() <= MAX_TERMS,
-        Statement::Finish { .. }
-        | Statement::End { .. }
-        | Statement::LetAdd { .. }
+        Statement::LetShift { s, .. } | Statement::LetStencil1 { s, .. } => *s <= MAX_SHIFT,
+        Statement::LetStencil2 { cols, s, .. } => 0 < *cols && *s <= MAX_SHIFT,
+        Statement::LetAdd { .. }
         | Statement::LetSub { .. }
         | Statement::LetMul { .. }
         | Statement::LetScale { .. }
         | Statement::LetSum { .. }
         | Statement::LetCount { .. }
-        | Statement::LetProduct { .. }
-        | Statement::Put { .. }
-        | Statement::DropAwait { .. }
-        | Statement::CheckRange { .. }
+        | Statement::LetProduct { .. } => true,
+        _ => unreachable!(),
+    }
+}
+
+/// Whether the numbers and lists of a check are within their limits.
+#[tactic(auto, using(crate::proofs::TaskForms::tasks_begin))]
+fn check_limits(statement: &Statement) -> bool
+    requires { (form (kind_of statement.now)).first ≡ CheckWord }
+    ensures { (here : Option Block) → result ≡ own_limits here statement.now }
+{
+    match statement {
+        Statement::CheckLinear { inputs, .. } => inputs.len() <= MAX_TERMS,
+        Statement::CheckConserve { s, .. } => *s <= MAX_SHIFT,
+        Statement::CheckConserve2 { cols, s, .. } => 0 < *cols && *s <= MAX_SHIFT,
+        Statement::CheckRange { .. }
         | Statement::CheckTotal { .. }
         | Statement::CheckProduct { .. }
         | Statement::CheckUser { .. } => true,
+        _ => unreachable!(),
     }
 }
 

@@ -3,35 +3,34 @@
 ghost use Rattle.std.specs.Prelude.{◌≡◌, Some, IfOk};
 ghost use Rattle.rh_words.specs.Text.{words_of};
 ghost use Rattle.rh_words.specs.Refusals.{OnRefused};
-ghost use Rattle.rh_task_text.specs.LineReadings.{IsRead, IsRefusedIn};
+ghost use Rattle.rh_task_text.specs.FormRows.{IsHead};
+ghost use Rattle.rh_task_text.specs.LineReadings.{SaysForm, IsRefusedIn};
 
 use crate::blocks::{may_stand, rows_fit};
 use crate::choice::kind_chosen;
-use crate::form::{Block, FormKind};
+use crate::form::{Block, FormKind, Standing};
 use crate::limits::MAX_LINE_WORDS;
-use crate::statement::Statement;
-use crate::statements::statement_of;
 use crate::table::form_of;
-use rh_words::{Fault, LineValues, PlaceWalk, Reason};
-use std::alloc::Global;
+use rh_words::{Fault, Keyword, LineValues, PlaceWalk, Reason};
 
-/// A statement and its form.
-#[derive(Drop)]
-pub struct ReadLine {
+/// A form, where it stands, and the word that its lines begin with.
+#[derive(Clone, Copy)]
+pub struct Head {
     pub kind: FormKind,
-    pub statement: Statement,
+    pub standing: Standing,
+    pub first: Keyword,
 }
 
-/// Reads the words of a line, right in this block after so many of its rows. A line that is longer than any statement
-/// within its limits is read to its end, but not kept.
+/// Reads the words of a line, right in this block after so many of its rows, as values of its form. A line that is longer
+/// than any statement within its limits is read to its end, but not kept.
 pub fn read_words(
-    alloc: Global,
     values: &mut LineValues,
     here: Option<Block>,
     rows: u64,
     line: &[u8],
-) -> Result<ReadLine, Fault<Reason>>
-    ensures ok { IfOk result (λ read. IsRead here rows (words_of line.now) read.kind read.statement) }
+) -> Result<Head, Fault<Reason>>
+    ensures ok { IfOk result (λ head. SaysForm here rows (words_of line.now) head.kind values.new) }
+    ensures head { IfOk result (λ head. IsHead head) }
     ensures refused { OnRefused result (λ reason. IsRefusedIn here rows (words_of line.now) reason) }
 {
     let Some(kind) = kind_chosen(line) else {
@@ -49,6 +48,9 @@ pub fn read_words(
     if !kept {
         return Err(Fault::Refused(Reason::Limit));
     }
-    let statement = statement_of(alloc, kind, values.as_slice())?;
-    Ok(ReadLine { kind, statement })
+    Ok(Head {
+        kind,
+        standing: row.standing,
+        first: row.first,
+    })
 }

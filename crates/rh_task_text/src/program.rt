@@ -1,8 +1,10 @@
 //! Reading a program text.
 
-ghost use Rattle.std.specs.Prelude.{◌<◌, ◌≤◌, ◌-◌, ◌/◌, ◌^◌, IfOk, length};
+ghost use Rattle.std.specs.Prelude.{◌≡◌, ◌∷◌, [], ◌<◌, ◌≤◌, ◌-◌, ◌/◌, ◌^◌, ℕ, List, IfOk, OnOk, length};
 ghost use Rattle.rh_words.specs.Refusals.{OnRefused};
-ghost use Rattle.rh_task_text.specs.Program.{Reads, FirstBad};
+ghost use Rattle.rh_words.specs.Text.{lines_of};
+ghost use Rattle.rh_task_text.specs.Program.{IsFirstLine, Reads, FirstBad, version_text};
+ghost use Rattle.rh_task_text.specs.ReaderStates.{IsBegun};
 
 use crate::reader::Reader;
 use crate::text::Text;
@@ -28,7 +30,34 @@ pub fn read_program(alloc: Global, bytes: &[u8]) -> Result<Text, Fault<Refusal>>
             reason: header_reason(first),
         }));
     }
+    read_body(alloc, bytes, lines)
+}
+
+/// Reads the lines below the first of a program text.
+fn read_body(alloc: Global, bytes: &[u8], below: Lines<'_>) -> Result<Text, Fault<Refusal>>
+    requires short { length bytes.now < 2 ^ 32 - 1 }
+    requires below { (first : List ℕ) × IsFirstLine first × (lines_of bytes.now ≡ first ∷ below) }
+    ensures ok { IfOk result (λ text. Reads bytes.now text) }
+    ensures refused { OnRefused result (λ refusal. FirstBad bytes.now refusal.line refusal.reason) }
+{
     let mut reader = Reader::with_capacity(alloc, room_for_items(bytes))?;
+    read_lines(alloc, bytes, below, &mut reader)?;
+    Ok(reader.into_text())
+}
+
+/// Reads all lines below the first of a program text.
+fn read_lines(
+    alloc: Global,
+    bytes: &[u8],
+    below: Lines<'_>,
+    reader: &mut Reader,
+) -> Result<(), Fault<Refusal>>
+    requires short { length bytes.now < 2 ^ 32 - 1 }
+    requires begun { IsBegun bytes.now 2 below reader.old }
+    ensures ok { OnOk result (Reads bytes.now (version_text 1 reader.new)) }
+    ensures refused { OnRefused result (λ refusal. FirstBad bytes.now refusal.line refusal.reason) }
+{
+    let mut lines = below;
     let mut number: u32 = 2;
     while let Some(line) = lines.next() {
         if let Err(fault) = reader.line(alloc, number, line) {
@@ -42,7 +71,7 @@ pub fn read_program(alloc: Global, bytes: &[u8]) -> Result<Text, Fault<Refusal>>
             reason: Reason::EndMissing,
         }));
     }
-    Ok(reader.into_text())
+    Ok(())
 }
 
 /// How many items to make room for, so that they never move: one for each line feed, and at most one for each four bytes,
@@ -64,8 +93,8 @@ fn line_feeds(bytes: &[u8]) -> usize {
     feeds.wrapping_add(usize::from(line_feeds_in(left)))
 }
 
-/// The length of pieces that are looked at as a whole.
-const PIECE: usize = 32;
+/// The length of pieces that are counted as a whole. A byte holds their count.
+const PIECE: usize = 240;
 
 /// How many line feeds a short piece has.
 fn line_feeds_in(piece: &[u8]) -> u8 {

@@ -1,47 +1,36 @@
 //! Reading a program text line by line.
 
-ghost use Rattle.std.specs.Prelude.{◌≡◌, ◌↔◌, ◌++◌, ◌∷◌, ◌≤◌, [], IsTrue, OnOk, OnErr, IfOk, ℕ, List};
+ghost use Rattle.std.specs.Prelude.{◌≡◌, ◌↔◌, [], true, IsTrue, OnOk, OnErr, IfOk};
 ghost use Rattle.rh_words.specs.Text.{words_of, is_printable, SaysNothing};
-ghost use Rattle.rh_task_text.specs.Forms.{form};
-ghost use Rattle.rh_task_text.specs.Statements.{kind_of};
-ghost use Rattle.rh_task_text.specs.Blocks.{open_blocks, is_let, is_check, is_in_task, is_row_form, count_line};
-ghost use Rattle.rh_task_text.specs.LineReasons.{statement_reason};
-ghost use Rattle.rh_task_text.specs.Program.{IsLawful, IsLawfulText, IsReason, version_text, upward};
+ghost use Rattle.rh_task_text.specs.Blocks.{open_blocks};
+ghost use Rattle.rh_task_text.specs.Program.{IsLawfulText, IsReason, version_text, upward};
 ghost use Rattle.rh_task_text.specs.ReaderStates.{AddsLine};
 ghost use Rattle.rh_words.specs.Refusals.{OnRefused};
 
-use crate::blocks::{Blocks, change_by, ends_nothing};
-use crate::form::{FormKind, Standing};
-use crate::limits::{has_room, own_limits};
+use crate::body::Body;
 use crate::line::read_words;
-use crate::statement::{Item, Statement};
-use crate::table::form_of;
+use crate::statement::Statement;
+use crate::statements::put_statement_of;
 use crate::text::Text;
-use rh_words::{Fault, Keyword, Line, LineValues, OutOfMemory, Reason, says_nothing};
+use rh_words::{Fault, Line, LineValues, OutOfMemory, Reason, says_nothing};
 use std::alloc::Global;
 use std::marker::Model;
 
-/// The items of the lines so far, and what is open below them.
+/// The items of the lines so far, and memory that is used again for each line: what its words say, and its statement.
 #[derive(Drop)]
 pub struct Reader {
-    items: Vec<Item>,
+    body: Body,
     values: LineValues,
-    blocks: Blocks,
-    rows: u64,
-    lets: usize,
-    checks: usize,
+    draft: Statement,
 }
 
 impl Model for Reader {
     ghost use Rattle.std.specs.Prelude.{List};
     ghost use Rattle.rh_task_text.specs.declared.statement.Item.{Item};
-    ghost use Rattle.rh_task_text.specs.ReaderStates.{IsStateBelow};
 
     ghost Value = { List Item };
 
-    ghost view = { λ r. r.items.items };
-
-    ghost invariant = { λ r. IsStateBelow r.items.items r.blocks r.rows r.lets r.checks };
+    ghost view = { λ r. r.body };
 }
 
 impl Reader {
@@ -50,12 +39,9 @@ impl Reader {
         ensures { IfOk result (λ reader. reader ≡ []) }
     {
         Ok(Reader {
-            items: Vec::with_capacity(alloc, lines)?,
+            body: Body::with_capacity(alloc, lines)?,
             values: LineValues::new(alloc),
-            blocks: Blocks::new(alloc),
-            rows: 0,
-            lets: 0,
-            checks: 0,
+            draft: Statement::End,
         })
     }
 
@@ -72,18 +58,24 @@ impl Reader {
         if says_nothing(line.bytes) {
             return Ok(());
         }
-        let here = self.blocks.innermost();
-        let read = read_words(alloc, &mut self.values, here, self.rows, line.bytes)?;
-        if let Some(reason) = self.statement_reason(read.kind, &read.statement) {
+        self.statement(alloc, number, line.bytes)
+    }
+
+    /// Reads a line that says something.
+    fn statement(&mut self, alloc: Global, number: u32, line: &[u8]) -> Result<(), Fault<Reason>>
+        requires printable { is_printable line.now ≡ true }
+        requires says { SaysNothing (words_of line.now) → ⊥ }
+        ensures ok { OnOk result (AddsLine self.old number line.now self.new) }
+        ensures refused { OnRefused result (λ reason. IsReason (upward self.old) line.now reason) }
+        ensures err { OnErr result (self.new ≡ self.old) }
+    {
+        let here = self.body.innermost();
+        let head = read_words(&mut self.values, here, self.body.rows(), line)?;
+        put_statement_of(alloc, head.kind, self.values.as_slice(), &mut self.draft)?;
+        if let Some(reason) = self.body.statement_reason(head, &self.draft) {
             return Err(Fault::Refused(reason));
         }
-        self.push(
-            read.kind,
-            Item {
-                line: number,
-                statement: read.statement,
-            },
-        )?;
+        self.body.push(head, number, &mut self.draft)?;
         Ok(())
     }
 
@@ -91,7 +83,7 @@ impl Reader {
     pub fn is_closed(&self) -> bool
         ensures { IsTrue result ↔ (open_blocks (upward self.now) ≡ []) }
     {
-        self.blocks.depth() == 0
+        self.body.is_closed()
     }
 
     /// The text of the items.
@@ -99,80 +91,6 @@ impl Reader {
         requires { IsLawfulText (version_text 1 self) }
         ensures { result ≡ version_text 1 self }
     {
-        Text::of(self.items)
-    }
-
-    /// The first of the reasons 8 and 9 that holds of the statement, which has this form, below the items.
-    fn statement_reason(&self, kind: FormKind, statement: &Statement) -> Option<Reason>
-        requires { kind_of statement.now ≡ kind }
-        ensures { result ≡ statement_reason (upward self.now) statement.now }
-    {
-        let here = self.blocks.innermost();
-        if ends_nothing(here, kind) {
-            return Some(Reason::EndExtra);
-        }
-        let first = form_of(kind).first;
-        if has_room(self.blocks.depth(), self.lets, self.checks, first)
-            && own_limits(here, statement)
-        {
-            None
-        } else {
-            Some(Reason::Limit)
-        }
-    }
-
-    /// Puts an item of this form below the others.
-    fn push(&mut self, kind: FormKind, item: Item) -> Result<(), OutOfMemory>
-        requires form { kind_of item.statement ≡ kind }
-        requires lawful { IsLawful (upward self.old) item.statement }
-        ensures ok { OnOk result (self.new ≡ self.old ++ item ∷ []) }
-        ensures err { OnErr result (self.new ≡ self.old) }
-    {
-        let row = form_of(kind);
-        let change = change_by(&item.statement);
-        let rows = if is_row_form(kind) { self.rows + 1 } else { 0 };
-        let lets = count_line(row.standing, is_let(row.first), self.lets);
-        let checks = count_line(row.standing, is_check(row.first), self.checks);
-        self.items.push(item)?;
-        if let Err(fault) = self.blocks.change(change) {
-            let _last = self.items.pop();
-            return Err(fault);
-        }
-        self.rows = rows;
-        self.lets = lets;
-        self.checks = checks;
-        Ok(())
-    }
-}
-
-fn is_row_form(kind: FormKind) -> bool
-    ensures { result ≡ is_row_form kind }
-{
-    matches!(kind, FormKind::RowForm)
-}
-
-fn is_let(word: Keyword) -> bool
-    ensures { result ≡ is_let word }
-{
-    matches!(word, Keyword::LetWord)
-}
-
-fn is_check(word: Keyword) -> bool
-    ensures { result ≡ is_check word }
-{
-    matches!(word, Keyword::CheckWord)
-}
-
-/// How many lines of a task there are after one more, which stands so and counts or not.
-fn count_line(standing: Standing, counts: bool, lines: usize) -> usize
-    requires { lines ≤ 32 }
-    ensures { result ≡ count_line standing counts lines }
-{
-    if !matches!(standing, Standing::InTask) {
-        0
-    } else if counts {
-        lines + 1
-    } else {
-        lines
+        self.body.into_text()
     }
 }

@@ -1,9 +1,8 @@
 //! The table of forms.
 
-ghost use Rattle.std.specs.Prelude.{◌≡◌, ◌≤◌, ◌∷◌, [], ℕ, List, length, take};
+ghost use Rattle.std.specs.Prelude.{◌≡◌, ◌≤◌, ◌∷◌, [], length, take};
 ghost use Rattle.rh_task_text.specs.Forms.{form, kinds, awaiting};
 ghost use Rattle.rh_task_text.specs.FormRows.{IsForm, HasParts};
-ghost use Rattle.rh_task_text.specs.LineReasons.{kind_chosen, kind_among};
 
 use crate::form::{FormKind, Standing};
 use Keyword::{
@@ -485,52 +484,4 @@ pub fn kinds() -> &'static [FormKind]
         FormKind::ProductCheckForm,
         FormKind::UserForm,
     ]
-}
-
-/// The rows whose lines begin with this byte, in their order, or all rows where none does.
-#[tactic(auto, unfolding(crate::specs::LineReasons::kind_chosen))]
-pub fn kinds_from(byte: u8) -> &'static [FormKind]
-    ensures { (bs : List ℕ) (ws : List (List ℕ)) → kind_chosen ((byte ∷ bs) ∷ ws) ≡ kind_among result.now ((byte ∷ bs) ∷ ws) }
-{
-    match byte {
-        b'c' => &[
-            FormKind::RangeForm,
-            FormKind::TotalForm,
-            FormKind::LinearForm,
-            FormKind::ConserveForm,
-            FormKind::Conserve2Form,
-            FormKind::ProductCheckForm,
-            FormKind::UserForm,
-        ],
-        b'd' => &[FormKind::DropForm],
-        b'e' => &[FormKind::EndForm],
-        b'f' => &[FormKind::FinishForm],
-        b'g' => &[FormKind::GroupForm],
-        b'l' => &[
-            FormKind::LitForm,
-            FormKind::GenForm,
-            FormKind::AddForm,
-            FormKind::SubForm,
-            FormKind::MulForm,
-            FormKind::ScaleForm,
-            FormKind::ShiftForm,
-            FormKind::CutForm,
-            FormKind::JoinForm,
-            FormKind::SumForm,
-            FormKind::CountForm,
-            FormKind::Stencil1Form,
-            FormKind::Stencil2Form,
-            FormKind::ProductForm,
-        ],
-        b'm' => &[FormKind::MatrixForm],
-        b'p' => &[FormKind::PromiseForm, FormKind::PutForm],
-        b'r' => &[FormKind::RowForm],
-        b't' => &[
-            FormKind::PlainForm,
-            FormKind::ReplicateForm,
-            FormKind::ReplayForm,
-            FormKind::AbftForm,
-        ],
-        _ => kinds(),
-    }
 }

@@ -58,6 +58,18 @@ fn is_refused(
     Ok(first_bad(alloc, text.as_slice()) == want)
 }
 
+/// A head, a piece so many times, a tail, and the first bad line and its reason.
+type Row<'a> = (&'a [u8], &'a [u8], u32, &'a [u8], (u32, u8));
+
+/// Whether the text of each row has its first bad line and reason.
+fn are_refused(alloc: Global, rows: &[Row<'_>]) -> Result<bool, OutOfMemory> {
+    let mut all = true;
+    for (head, piece, times, tail, want) in rows {
+        all = all && is_refused(alloc, head, piece, *times, tail, *want)?;
+    }
+    Ok(all)
+}
+
 #[test]
 fn lines_outside_of_tasks_are_judged(rt: HostRuntime) -> Result<(), Fail> {
     let rows = b"\
@@ -190,11 +202,9 @@ fn lines_of_matrices_are_judged(rt: HostRuntime) -> Result<(), Fail> {
 }
 
 #[test]
-fn texts_are_judged(rt: HostRuntime) -> Result<(), Fail> {
+fn headers_and_blocks_are_judged(rt: HostRuntime) -> Result<(), Fail> {
     let task: &[u8] = b"rhc 1\ntask t plain\n";
-    let literal: &[u8] = b"rhc 1\ntask t plain\nlet x lit";
-    let row: &[u8] = b"rhc 1\nmatrix m 1 4096\nrow";
-    let rows: [(&[u8], &[u8], u32, &[u8], (u32, u8)); 22] = [
+    let rows: [Row<'_>; 8] = [
         (b"", b"", 0, b"", (1, 2)),
         (b"rhc 2\n", b"", 0, b"", (1, 2)),
         (b"# rhc 1\n", b"", 0, b"", (1, 2)),
@@ -203,30 +213,42 @@ fn texts_are_judged(rt: HostRuntime) -> Result<(), Fail> {
         (task, b"", 0, b"", (3, 7)),
         (task, b"", 0, b"end\nend\n", (4, 8)),
         (b"rhc 1\n", b"finish f\n", 8, b"task t abft\nend", (12, 7)),
+    ];
+    assert!(rt; are_refused(rt.alloc(), rows.as_slice())?);
+    Ok(())
+}
+
+#[test]
+fn counts_of_lines_are_judged(rt: HostRuntime) -> Result<(), Fail> {
+    let task: &[u8] = b"rhc 1\ntask t plain\n";
+    let matrix: &[u8] = b"rhc 1\nmatrix m 2 1\n";
+    let rows: [Row<'_>; 9] = [
         (b"rhc 1\n", b"group g\n", 9, b"", (10, 9)),
-        (b"rhc 1\nmatrix m 2 1\n", b"row 0:1\n", 3, b"end", (5, 6)),
-        (b"rhc 1\nmatrix m 2 1\n", b"row 0:1\n", 1, b"end", (4, 6)),
-        (b"rhc 1\nmatrix m 2 1\n", b"row 0:1\n", 2, b"end", (0, 0)),
-        (b"rhc 1\nmatrix m 2 1\n", b"row 0:1\n", 2, b"", (5, 7)),
-        (
-            b"rhc 1\nmatrix m 2 1\n",
-            b"row 0:1\n",
-            2,
-            b"end\nend",
-            (6, 8),
-        ),
+        (matrix, b"row 0:1\n", 3, b"end", (5, 6)),
+        (matrix, b"row 0:1\n", 1, b"end", (4, 6)),
+        (matrix, b"row 0:1\n", 2, b"end", (0, 0)),
+        (matrix, b"row 0:1\n", 2, b"", (5, 7)),
+        (matrix, b"row 0:1\n", 2, b"end\nend", (6, 8)),
         (task, b"let x sum a\n", 32, b"end", (0, 0)),
         (task, b"let x sum a\n", 33, b"end", (35, 9)),
         (task, b"check user p q\n", 17, b"end", (19, 9)),
+    ];
+    assert!(rt; are_refused(rt.alloc(), rows.as_slice())?);
+    Ok(())
+}
+
+#[test]
+fn long_lines_are_judged(rt: HostRuntime) -> Result<(), Fail> {
+    let literal: &[u8] = b"rhc 1\ntask t plain\nlet x lit";
+    let row: &[u8] = b"rhc 1\nmatrix m 1 4096\nrow";
+    let rows: [Row<'_>; 5] = [
         (literal, b" 1", 4096, b"\nend", (0, 0)),
         (literal, b" 1", 4097, b"\nend", (3, 9)),
         (literal, b" 1", 5000, b" x\nend", (3, 5)),
         (row, b" 0:1", 2049, b"\nend", (3, 9)),
         (row, b" 0:1", 5000, b" 9\nend", (3, 5)),
     ];
-    for (head, piece, times, tail, want) in rows {
-        assert!(rt; is_refused(rt.alloc(), head, piece, times, tail, want)?);
-    }
+    assert!(rt; are_refused(rt.alloc(), rows.as_slice())?);
     Ok(())
 }
 

@@ -1,9 +1,10 @@
 //! What a statement says, word by word.
 
-ghost use Rattle.std.specs.Prelude.{◌≡◌, ◌++◌, ◌∷◌, [], IfOk, OnOk, List, ℕ, map};
+ghost use Rattle.std.specs.Prelude.{◌≡◌, ◌⊎◌, ◌++◌, ◌∷◌, [], IfOk, OnOk, List, ℕ, map};
 ghost use Rattle.rh_words.specs.declared.value.Value.{Value};
 ghost use Rattle.rh_words.specs.declared.value.Value.TheVariants.{AWord, AName, ANumber};
 ghost use Rattle.rh_words.specs.declared.keyword.Keyword.TheVariants.{RowWord, LetWord, LitWord, CheckWord, LinearWord};
+ghost use Rattle.rh_task_text.specs.declared.form.FormKind.TheVariants.{Stencil1Form, Stencil2Form};
 ghost use Rattle.rh_task_text.specs.Forms.{form};
 ghost use Rattle.rh_task_text.specs.Statements.{kind_of, said, awaits_said, pairs_said, terms_said, scheme_said};
 
@@ -90,6 +91,21 @@ fn let_values(alloc: Global, statement: &Statement) -> Result<Vec<Value>, OutOfM
         Statement::LetCut { x, a, from, len } => let_cut_values(alloc, x, a, *from, *len),
         Statement::LetSum { x, a } => let_one_values(alloc, x, SumWord, a),
         Statement::LetCount { x, a } => let_one_values(alloc, x, CountWord, a),
+        Statement::LetStencil1 { .. } | Statement::LetStencil2 { .. } => let_stencil_values(
+            alloc, statement,
+        ),
+        Statement::LetProduct { x, a, v } => let_two_values(alloc, x, ProductWord, a, v),
+        _ => unreachable!(),
+    }
+}
+
+/// What a `let` of a stencil says.
+#[tactic(auto, using(crate::proofs::TaskForms::tasks_begin))]
+fn let_stencil_values(alloc: Global, statement: &Statement) -> Result<Vec<Value>, OutOfMemory>
+    requires { kind_of statement.now ≡ Stencil1Form ⊎ kind_of statement.now ≡ Stencil2Form }
+    ensures { IfOk result (λ values. values.items ≡ said statement.now) }
+{
+    match statement {
         Statement::LetStencil1 { x, l, m, r, k, s } => stencil1_values(
             alloc,
             LetWord,
@@ -125,7 +141,6 @@ fn let_values(alloc: Global, statement: &Statement) -> Result<Vec<Value>, OutOfM
             *k,
             *s,
         ),
-        Statement::LetProduct { x, a, v } => let_two_values(alloc, x, ProductWord, a, v),
         _ => unreachable!(),
     }
 }

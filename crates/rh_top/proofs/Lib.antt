@@ -7,3 +7,4 @@ pub mod SomeAnswer
 pub mod Statuses
 pub mod CallEnds
 pub mod OneThread
+pub mod FaultFreeCalls

@@ -5,3 +5,4 @@ pub mod Answer
 pub mod Promise
 pub mod Excuses
 pub mod CallSteps
+pub mod FaultFreeCalls

@@ -467,6 +467,146 @@ promise heat by sum attempt 0: 32
 total tasks 5 accepted 5 failed 0 skipped 0 puts 7 faults 1 of 1
 ";
 
+/// A product under a task with correction, and a fault in one of its words.
+pub const CORRECTED: &[u8] = b"rhc 1
+# A sparse matrix with two rows and two columns times what x holds. One altered word of the product is found and put right.
+matrix a 2 2
+  row 0:2
+  row 0:1 1:3
+end
+promise x 2
+promise y 2
+
+task init plain
+  let v lit 5 7
+  put x v
+end
+
+task mul abft await x
+  let p product a x
+  put y p
+  check product y a x
+end
+";
+
+pub const CORRECTED_FAULTS: &[u8] = b"rhf 1
+# The second word of the product becomes 27 in place of 26.
+fault mul 0 p 1 1
+";
+
+pub const CORRECTED_REPORT: &[u8] = b"rhr 1
+task init accepted 0
+  attempt 0 accepted
+task mul corrected 1
+  attempt 0 corrected 1
+promise x by init attempt 0: 5 7
+promise y by mul attempt 0: 10 26
+total tasks 2 accepted 2 failed 0 skipped 0 puts 2 faults 1 of 1
+";
+
+/// A product of which more than one word is altered, so that another one is put right.
+pub const MISCORRECTED: &[u8] = b"rhc 1
+# Three equal rows. A fault in the word that the product reads alters all three words of the product alike.
+matrix a 3 1
+  row 0:1
+  row 0:1
+  row 0:1
+end
+promise x 1
+promise y 3
+
+task init plain
+  let v lit 5
+  put x v
+end
+
+task mul abft await x
+  let p product a x
+  put y p
+  check product y a x
+end
+";
+
+pub const MISCORRECTED_FAULTS: &[u8] = b"rhf 1
+# The product reads 7 in place of 5, so its words become 7 7 7.
+fault mul 0 x 0 2
+";
+
+pub const MISCORRECTED_REPORT: &[u8] = b"rhr 1
+task init accepted 0
+  attempt 0 accepted
+task mul corrected 1
+  attempt 0 corrected 1
+promise x by init attempt 0: 5
+promise y by mul attempt 0: 7 1 7
+total tasks 2 accepted 2 failed 0 skipped 0 puts 2 faults 1 of 1
+";
+
+/// A step of heat over a grid, under built checks and checks that the program hands in.
+pub const GRID: &[u8] = b"rhc 1
+# One step of heat over a closed grid of two rows and two columns. A quarter of the difference flows from a word to each neighbour. The
+# words around the grid are those of its own edge, so that nothing flows over it and no heat is lost: the changes sum to 0.
+# The program hands in two checks: `byte` asks for words up to 255, and `zero_sum` for words that sum to 0.
+promise grid 4
+promise north 2
+promise south 2
+promise west 2
+promise east 2
+promise stepped 4
+promise change 4
+
+task start plain
+  let m lit 16 0 0 0
+  let warm lit 16 0
+  let cold lit 0 0
+  put grid m
+  put north warm
+  put south cold
+  put west warm
+  put east cold
+end
+
+task step replay 2 await north south west east grid
+  let t stencil2 north south west east grid 2 1 2
+  put stepped t
+  check range stepped 0 16
+  check user stepped byte
+  check conserve2 stepped north south west east grid 2 1 2
+end
+
+task compare replay 2 await grid stepped
+  let d sub stepped grid
+  put change d
+  check user change zero_sum
+end
+";
+
+pub const GRID_FAULTS: &[u8] = b"rhf 1
+# The first word is 8 after the step; in the first attempt it is 12, so that the grid has gained heat.
+fault step 0 t 0 0x4
+# The first attempt to compare reads 12 in place of 4.
+fault compare 0 stepped 1 0x8
+";
+
+pub const GRID_REPORT: &[u8] = b"rhr 1
+task start accepted 0
+  attempt 0 accepted
+task step accepted 1
+  attempt 0 refused 2
+  attempt 1 accepted
+task compare accepted 1
+  attempt 0 refused 0
+  attempt 1 accepted
+promise grid by start attempt 0: 16 0 0 0
+promise north by start attempt 0: 16 0
+promise south by start attempt 0: 0 0
+promise west by start attempt 0: 16 0
+promise east by start attempt 0: 0 0
+promise stepped by step attempt 1: 8 4 4 0
+promise change by compare attempt 1: 18446744073709551608 4 4 0
+total tasks 3 accepted 3 failed 0 skipped 0 puts 7 faults 2 of 2
+";
+
 /// Equal faults in two replicas.
 pub const EQUAL_FAULTS: &[u8] = b"rhc 1
 # Equal faults in both replicas: they agree on altered words, and no vote can tell.

@@ -11,6 +11,7 @@ ghost use Rattle.rh_top.specs.Programs.{TextRefusal, IsProgram, IsRefusedProgram
 ghost use Rattle.rh_top.specs.Answer.{Answer, IsAnswer, HasPlan, ReadsFile, program_of, faults_of, stored};
 ghost use Rattle.rh_top.specs.declared.status.Status.{Status};
 ghost use Rattle.rh_top.specs.Promise.{Call, KeepsPromise, Tells, IsTold, status_number, answer_number};
+ghost use Rattle.rh_top.specs.FaultFreeCalls.{ReportsOfCallsAreFaultFree};
 ghost use Rattle.rh_top.specs.Excuses.{HasAnswer, MayAnswer, LostRead, LostOutput, IsExcused};
 
 /// The bytes of a program have a plan or are refused, never both, and have one plan or one refusal.
@@ -67,3 +68,13 @@ pub fn told_files_give_an_answer()
         → IsCommand words c → HasPlan checks (IsTold files) c plan → faults_of c ≡ stored name → files.file name ≡ Some None
         → (a : Answer) → IsAnswer checks (MayBe files) words a → ⊥ }
 {}
+
+/// Where a call ends with status 0 or 1 and each handed-in check has one name and asks one thing, the report that the output took tells
+/// of each node that is within its fault budget, with all that it depends on, what it tells without faults.
+pub fn reports_of_calls_are_fault_free()
+    ensures { ReportsOfCallsAreFaultFree }
+{
+    rh_task_text::read_texts_are_lawful();
+    rh_plan::planned_texts_have_lawful_plans();
+    rh_report::reports_are_fault_free();
+}

@@ -5,9 +5,15 @@
 
 mod command;
 #[cfg(test)]
+mod correction_tests;
+#[cfg(test)]
 mod examples;
 #[cfg(test)]
 mod fault_tests;
+#[cfg(test)]
+mod gate_tests;
+#[cfg(test)]
+mod handed_in_tests;
 mod laws;
 #[cfg(test)]
 mod library;
@@ -22,6 +28,7 @@ mod tool;
 
 pub use laws::{
     a_call_has_one_answer, a_fault_file_has_faults_or_is_refused,
-    a_program_has_a_plan_or_is_refused, statuses_are_exact, told_files_give_an_answer,
+    a_program_has_a_plan_or_is_refused, reports_of_calls_are_fault_free, statuses_are_exact,
+    told_files_give_an_answer,
 };
 pub use tool::{top, want_memory};

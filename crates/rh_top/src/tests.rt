@@ -5,9 +5,9 @@ use crate::examples::{
     REFUSED_MESSAGE, SCOPES, SCOPES_REPORT, SKIPPING, SKIPPING_REPORT, TOTALS, TOTALS_REPORT,
 };
 use crate::{top, want_memory};
-use rh_check::NoChecks;
+use rh_check::{Checks, NoChecks};
 use rh_outside::{MemShelf, MemSink, NeverFails, Shelf};
-use rh_schemes::OpenGate;
+use rh_schemes::{Gate, OpenGate};
 use rh_words::OutOfMemory;
 use std::alloc::{AllocError, Global};
 use std::fmt::Write;
@@ -46,13 +46,25 @@ pub fn calls<S: Shelf>(
     outputs: &mut Outputs,
     want: Want<'_>,
 ) -> bool {
+    calls_with(words, store, outputs, &NoChecks, &OpenGate, want)
+}
+
+/// Whether a call with these handed-in checks and this gate answers as it must.
+pub fn calls_with<S: Shelf, C: Checks, G: Gate>(
+    words: &[String],
+    store: &mut S,
+    outputs: &mut Outputs,
+    checks: &C,
+    gate: &G,
+    want: Want<'_>,
+) -> bool {
     let (status, out, err) = want;
     let Outputs {
         alloc,
         out: output,
         err: errors,
     } = outputs;
-    top(*alloc, words, store, output, errors, &NoChecks, &OpenGate) == status
+    top(*alloc, words, store, output, errors, checks, gate) == status
         && output.taken() == out
         && errors.taken() == err
 }
@@ -143,8 +155,8 @@ const REFUSED_PROGRAMS: &[(&[u8], &[u8])] = &[
         b"rh: program line 2 reason 9 Limit\n",
     ),
     (
-        b"rhc 1\nmatrix m 1 1\nrow 0:1\nend\n",
-        b"rh: program line 2 reason 19 NotBuilt\n",
+        b"rhc 1\nmatrix m 1 1\nrow 0:1\nend\ntask a abft\nend\n",
+        b"rh: program line 6 reason 15 Scheme\n",
     ),
     (
         b"rhc 1\npromise x 1\n\ntask x plain\nend\n",

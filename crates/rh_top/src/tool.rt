@@ -4,7 +4,7 @@ ghost use Rattle.std.specs.Prelude.{◌≡◌, IfOk, codes, map};
 ghost use Rattle.std.specs.String.{string_bytes};
 ghost use Rattle.rh_top.specs.Answer.{refusal_line};
 ghost use Rattle.rh_top.specs.Promise.{KeepsPromise, Tells, Says, call_of, status_number};
-ghost use Rattle.rh_check.specs.Users.{handed_checks};
+ghost use Rattle.rh_check.specs.Users.{handed_checks, ArePaired};
 ghost use Rattle.rh_top.specs.CallSteps.{Delivers, IsToldOf, IsToldRefusal, refusal_of};
 
 use crate::command::read_command;
@@ -29,10 +29,12 @@ pub fn top<S: Shelf, O: Sink, E: Sink, C: Checks, G: Gate>(
     checks: &C,
     gate: &G,
 ) -> u8
-    ensures { KeepsPromise (call_of (map string_bytes words.now) (handed_checks (C.names checks.now) (C.specs checks.now))
+    ensures kept { KeepsPromise (call_of (map string_bytes words.now) (handed_checks (C.names checks.now) (C.specs checks.now))
         (S.state shelf.old) (S.state shelf.new) (O.state out.old) (O.state out.new)
         (E.state err.old) (E.state err.new)) result }
+    ensures paired { ArePaired (handed_checks (C.names checks.now) (C.specs checks.now)) }
 {
+    let _paired = checks.count();
     obey(alloc, words, shelf, out, err, checks, gate).number()
 }
 

@@ -227,10 +227,8 @@ impl<'a> LineWords<'a> {
 pub fn says_nothing(line: &[u8]) -> bool
     ensures { IsTrue result ↔ SaysNothing (words_of line.now) }
 {
-    match LineWords::of(line).next() {
-        None => true,
-        Some(word) => word.starts_with(b"#"),
-    }
+    let start = skip_spaces(line, 0);
+    start == line.len() || line[start] == b'#'
 }
 
 /// Whether the two words of the line are this format and this version.

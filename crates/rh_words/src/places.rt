@@ -88,36 +88,40 @@ impl Told {
         match place {
             Place::WordPlace(keyword) => {
                 if word == keyword_text(keyword) {
-                    keep(&mut self.values, self.few, Value::AWord(keyword))?;
-                } else {
-                    self.words = false;
+                    return keep(&mut self.values, self.few, Value::AWord(keyword));
                 }
+                self.words = false;
             }
-            Place::NamePlace => match Name::read(word) {
-                Some(name) => keep(&mut self.values, self.few, Value::AName(name))?,
-                None => self.names = false,
-            },
-            Place::NumberPlace => match read_number(word) {
-                Ok(number) => keep(&mut self.values, self.few, Value::ANumber(number))?,
-                Err(_) => self.numbers = false,
-            },
-            Place::MaskPlace => match read_number(word) {
-                Ok(number) => keep(&mut self.values, self.few, Value::AMask(number))?,
-                Err(_) => self.numbers = false,
-            },
-            Place::PairPlace => match read_pair(word) {
-                Some((first, second)) => keep(
-                    &mut self.values,
-                    self.few,
-                    Value::APair(first, second),
-                )?,
-                None => self.numbers = false,
-            },
+            Place::NamePlace => {
+                if let Some(name) = Name::read(word) {
+                    return keep(&mut self.values, self.few, Value::AName(name));
+                }
+                self.names = false;
+            }
+            Place::NumberPlace => {
+                if let Ok(number) = read_number(word) {
+                    return keep(&mut self.values, self.few, Value::ANumber(number));
+                }
+                self.numbers = false;
+            }
+            Place::MaskPlace => {
+                if let Ok(number) = read_number(word) {
+                    return keep(&mut self.values, self.few, Value::AMask(number));
+                }
+                self.numbers = false;
+            }
+            Place::PairPlace => {
+                if let Some((first, second)) = read_pair(word) {
+                    return keep(&mut self.values, self.few, Value::APair(first, second));
+                }
+                self.numbers = false;
+            }
         }
         Ok(())
     }
 
     /// Reads the words of a line, which stand in these places.
+    #[inline(never)]
     fn read(&mut self, places: PlaceWalk, most: usize, line: &[u8]) -> Result<bool, Fault<Reason>>
         requires { IsNothingTold self.old.names self.old.numbers self.old.words self.old.few self.old.values.items }
         ensures ok { IfOk result (λ kept. MatchBool kept

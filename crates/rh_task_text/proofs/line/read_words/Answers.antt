@@ -1,11 +1,9 @@
-use Rattle.std.proofs.Common.{◌≡◌, List, true, sym, ap, ◌∙◌, subst, inl, inr, Bool}
+use Rattle.std.proofs.Common.{◌≡◌, true, sym, ap, ◌∙◌, subst, inl, inr, Bool}
 use Rattle.rh_words.specs.Text.{words_of}
-use Rattle.rh_words.specs.declared.value.Value.{Value}
 use Rattle.rh_task_text.specs.Forms.{form}
 use Rattle.rh_task_text.specs.declared.form.Standing.{Standing}
 use Rattle.rh_task_text.specs.Blocks.{may_stand}
-use Rattle.rh_task_text.specs.Statements.{States}
-use Rattle.rh_task_text.proofs.StatementReasons.{rows_out, read_as}
+use Rattle.rh_task_text.proofs.StatementReasons.{rows_out}
 use Rattle.rh_task_text.proofs.LongLines.{KeptForm, kept_form, kept_unreasoned, too_long}
 use Rattle.rh_task_text.proofs.line.read_words.Goals as goal
 use Rattle.rh_task_text.proofs.line.read_words.Goals.{In_ok-kept}
@@ -33,5 +31,9 @@ pub returns-clause-ok : goal.returns-clause-ok
 returns-clause-ok c =
     let here = (goal.at.returns-clause-ok c).In_ok-kept in
     let says = subst (λ (b : Bool). KeptForm b (words_of c.args.line.now) c.in-Some.kind c.read.new.self) c.if-not-kept.false (told here) in
-    let states = subst (λ (l : List Value). States c.in-Some.kind l c.in_ok-statement.statement) c.as_slice.ensures c.in_ok-statement.ensures in
-    read_as c.args.here c.args.rows (words_of c.args.line.now) c.in-Some.kind c.read.new.self c.in_ok-statement.statement (sym c.in-Some.ensures) (stands here) (sym c.rows_fit.ensures ∙ c.if-not-rows_fit.false) says.0 says.1 states
+    record {
+      chosen = sym c.in-Some.ensures;
+      stands = (stands here, sym c.rows_fit.ensures ∙ c.if-not-rows_fit.false);
+      says = says.0;
+      fits = says.1;
+    }

@@ -15,4 +15,4 @@ pub number_of-requires-3 : goal.number_of-requires-3
 number_of-requires-3 c = fit_form Conserve2Form c.args.values.now 10 _ c.requires c.s-item.is
 
 pub returns : goal.returns
-returns c = conserve2_states c.args.values.now _ _ _ _ _ _ _ _ _ _ _ _ _ _ _ _ _ _ c.requires c.promise-item.is c.name_of.ensures c.north-item.is c.name_of-2.ensures c.south-item.is c.name_of-3.ensures c.west-item.is c.name_of-4.ensures c.east-item.is c.name_of-5.ensures c.m-item.is c.name_of-6.ensures c.cols-item.is c.number_of.ensures c.k-item.is c.number_of-2.ensures c.s-item.is c.number_of-3.ensures
+returns c = rw c.set.ensures (conserve2_states c.args.values.now _ _ _ _ _ _ _ _ _ _ _ _ _ _ _ _ _ _ c.requires c.promise-item.is c.name_of.ensures c.north-item.is c.name_of-2.ensures c.south-item.is c.name_of-3.ensures c.west-item.is c.name_of-4.ensures c.east-item.is c.name_of-5.ensures c.m-item.is c.name_of-6.ensures c.cols-item.is c.number_of.ensures c.k-item.is c.number_of-2.ensures c.s-item.is c.number_of-3.ensures)

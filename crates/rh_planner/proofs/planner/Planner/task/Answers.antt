@@ -7,15 +7,18 @@ use Rattle.rh_rules.specs.Facets.{facets}
 use Rattle.rh_planner.proofs.planner.Planner.task.Goals as goal
 
 pub returns-in-Some : goal.returns-in-Some
-returns-in-Some c = judges_refused _ _ _ c.in-Some.reason refl (cc (reason_task (facts_of c.args.self.now) c.args.self.now.handed c.args.name c.args.scheme c.args.awaits.now c.requires, c.in_ok-reason.ensures.reason, c.as_slice-names.ensures.value, c.in-Some.is))
+returns-in-Some c = judges_refused _ _ _ c.in-Some.reason refl (cc (reason_task (facts_of c.args.self.now) c.args.self.now.handed c.args.name c.args.scheme c.args.awaits.now, c.in_ok-reason.ensures.reason, c.as_slice-names.ensures.value, c.in-Some.is))
 
 pub returns : goal.returns
 unfolding facets
 returns c = record {
-  reason = (cc (reason_task (facts_of c.args.self.now) c.args.self.now.handed c.args.name c.args.scheme c.args.awaits.now c.requires, c.in_ok-reason.ensures.reason, c.as_slice-names.ensures.value, c.in_default.is));
+  reason = (cc (reason_task (facts_of c.args.self.now) c.args.self.now.handed c.args.name c.args.scheme c.args.awaits.now, c.in_ok-reason.ensures.reason, c.as_slice-names.ensures.value, c.in_default.is));
   tables = λ none. record {
     names = search rules;
     promises = search rules;
+    matrices = search rules;
+    closed = search rules;
+    begun = search rules;
     blocks = search rules;
     count = search rules;
     nodes = search rules;

@@ -1,7 +1,0 @@
-use Rattle.std.proofs.Common.{◌≡◌, map, take}
-use Rattle.rh_words.specs.Kernels.{join_value}
-use Rattle.rh_plan.specs.Buffers.{local_at}
-use Rattle.rh_attempt.proofs.making.joined.Given as goal
-
-abbrev pub invariant-loop-part : goal.invariant-loop-part
-invariant-loop-part l = l.words ≡ join_value (map (local_at l.locals) (take l.part-index l.parts))

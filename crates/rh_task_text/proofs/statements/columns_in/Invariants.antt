@@ -1,9 +1,0 @@
-use Rattle.std.proofs.Common.{◌≡◌, ◌++◌, length}
-use Rattle.rh_task_text.specs.ValueColumns.{columns_in}
-use Rattle.rh_task_text.proofs.statements.columns_in.Given as goal
-
-abbrev pub invariant-loop-value : goal.invariant-loop-value
-invariant-loop-value l = l.found.items ++ columns_in l.left ≡ columns_in l.fn.values
-
-abbrev pub decreases-loop-value : goal.decreases-loop-value
-decreases-loop-value l = length l.left

@@ -1,0 +1,189 @@
+//! The items of a program text that is read, and what is open below them.
+
+ghost use Rattle.std.specs.Prelude.{◌≡◌, ◌↔◌, ◌++◌, ◌∷◌, ◌<◌, ◌≤◌, ◌-◌, ◌^◌, [], IsTrue, OnOk, OnErr, IfOk};
+ghost use Rattle.rh_task_text.specs.FormRows.{IsHead};
+ghost use Rattle.rh_task_text.specs.Statements.{kind_of};
+ghost use Rattle.rh_task_text.specs.Blocks.{open_blocks, innermost, rows_here, is_let, is_check, is_in_task, is_row_form, count_line};
+ghost use Rattle.rh_task_text.specs.LineReasons.{statement_reason};
+ghost use Rattle.rh_task_text.specs.Program.{IsLawful, IsLawfulText, version_text, upward};
+ghost use Rattle.rh_task_text.specs.ReaderStates.{FollowsLine, an_item};
+
+use crate::blocks::{Blocks, change_by, ends_nothing};
+use crate::form::{Block, Change, FormKind, Standing};
+use crate::limits::{has_room, own_limits};
+use crate::line::Head;
+use crate::statement::{Item, Statement};
+use crate::text::Text;
+use rh_words::{Keyword, OutOfMemory, Reason};
+use std::alloc::Global;
+use std::marker::Model;
+use std::mem;
+
+/// The items of the lines so far, and what is open below them.
+#[derive(Drop)]
+pub struct Body {
+    items: Vec<Item>,
+    below: Below,
+}
+
+impl Model for Body {
+    ghost use Rattle.std.specs.Prelude.{List};
+    ghost use Rattle.rh_task_text.specs.declared.statement.Item.{Item};
+    ghost use Rattle.rh_task_text.specs.ReaderStates.{IsStateBelow};
+
+    ghost Value = { List Item };
+
+    ghost view = { λ b. b.items.items };
+
+    ghost invariant = { λ b. IsStateBelow b.items.items b.below.blocks b.below.rows b.below.lets b.below.checks };
+}
+
+impl Body {
+    /// No items, with room for so many.
+    pub fn with_capacity(alloc: Global, items: usize) -> Result<Body, OutOfMemory>
+        ensures { IfOk result (λ body. body ≡ []) }
+    {
+        Ok(Body {
+            items: Vec::with_capacity(alloc, items)?,
+            below: Below {
+                blocks: Blocks::new(alloc),
+                rows: 0,
+                lets: 0,
+                checks: 0,
+            },
+        })
+    }
+
+    /// The innermost block that is open below the items.
+    pub fn innermost(&self) -> Option<Block>
+        ensures { result ≡ innermost (open_blocks (upward self.now)) }
+    {
+        self.below.blocks.innermost()
+    }
+
+    /// How many rows the open matrix has.
+    pub fn rows(&self) -> u64
+        ensures { result ≡ rows_here (upward self.now) }
+    {
+        self.below.rows
+    }
+
+    /// Whether no block is open below the items.
+    pub fn is_closed(&self) -> bool
+        ensures { IsTrue result ↔ (open_blocks (upward self.now) ≡ []) }
+    {
+        self.below.blocks.depth() == 0
+    }
+
+    /// The text of the items.
+    pub fn into_text(self) -> Text
+        requires { IsLawfulText (version_text 1 self) }
+        ensures { result ≡ version_text 1 self }
+    {
+        Text::of(self.items)
+    }
+
+    /// The first of the reasons 8 and 9 that holds of the statement, which has this form, below the items.
+    pub fn statement_reason(&self, head: Head, statement: &Statement) -> Option<Reason>
+        requires head { IsHead head }
+        requires form { kind_of statement.now ≡ head.kind }
+        ensures { result ≡ statement_reason (upward self.now) statement.now }
+    {
+        let here = self.below.blocks.innermost();
+        if ends_nothing(here, head.kind) {
+            return Some(Reason::EndExtra);
+        }
+        if has_room(
+            self.below.blocks.depth(),
+            self.below.lets,
+            self.below.checks,
+            head.first,
+        ) && own_limits(here, statement)
+        {
+            None
+        } else {
+            Some(Reason::Limit)
+        }
+    }
+
+    /// Puts the statement of this form and line below the others. What is left in its place is `end`.
+    pub fn push(
+        &mut self,
+        head: Head,
+        line: u32,
+        statement: &mut Statement,
+    ) -> Result<(), OutOfMemory>
+        requires head { IsHead head }
+        requires form { kind_of statement.old ≡ head.kind }
+        requires lawful { IsLawful (upward self.old) statement.old }
+        ensures ok { OnOk result (self.new ≡ self.old ++ an_item line statement.old ∷ []) }
+        ensures err { OnErr result (self.new ≡ self.old) }
+    {
+        let change = change_by(statement);
+        self.items.push(Item {
+            line,
+            statement: mem::replace(statement, Statement::End),
+        })?;
+        if let Err(fault) = self.below.follow(head, change) {
+            let _last = self.items.pop();
+            return Err(fault);
+        }
+        Ok(())
+    }
+}
+
+/// What is open below the items: the blocks, the rows of the innermost, and the `let` and `check` lines of the open task.
+#[derive(Drop)]
+struct Below {
+    blocks: Blocks,
+    rows: u64,
+    lets: usize,
+    checks: usize,
+}
+
+impl Below {
+    /// Counts a line of this form, which changes the blocks so.
+    fn follow(&mut self, head: Head, change: Change) -> Result<(), OutOfMemory>
+        requires rows { self.old.rows < 2 ^ 64 - 1 }
+        requires lines { self.old.lets ≤ 32 × self.old.checks ≤ 32 }
+        ensures ok { OnOk result (FollowsLine head change self.old.blocks self.old.rows self.old.lets self.old.checks self.new.blocks self.new.rows self.new.lets self.new.checks) }
+        ensures err { OnErr result (self.new ≡ self.old) }
+    {
+        self.blocks.change(change)?;
+        self.rows = if is_row_form(head.kind) {
+            self.rows + 1
+        } else {
+            0
+        };
+        if !matches!(head.standing, Standing::InTask) {
+            self.lets = 0;
+            self.checks = 0;
+            return Ok(());
+        }
+        if is_let(head.first) {
+            self.lets += 1;
+        }
+        if is_check(head.first) {
+            self.checks += 1;
+        }
+        Ok(())
+    }
+}
+
+fn is_row_form(kind: FormKind) -> bool
+    ensures { result ≡ is_row_form kind }
+{
+    matches!(kind, FormKind::RowForm)
+}
+
+fn is_let(word: Keyword) -> bool
+    ensures { result ≡ is_let word }
+{
+    matches!(word, Keyword::LetWord)
+}
+
+fn is_check(word: Keyword) -> bool
+    ensures { result ≡ is_check word }
+{
+    matches!(word, Keyword::CheckWord)
+}

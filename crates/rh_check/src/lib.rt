@@ -11,10 +11,6 @@ mod matrices;
 mod passing;
 mod spec;
 mod stored;
-#[cfg(test)]
-mod stored_tests;
-#[cfg(test)]
-mod tests;
 
 pub use fast::{all_bytes, sums_to_zero};
 pub use handed_in::{Checks, NoChecks};

@@ -8,8 +8,6 @@ mod faults;
 mod laws;
 mod printing;
 mod reading;
-#[cfg(test)]
-mod tests;
 
 pub use fault_text::{FaultLine, FaultText};
 pub use faults::{Faults, Strike};

@@ -2,10 +2,10 @@
 use Rattle.std.proofs.Common.{◌≡◌, ◌≢◌, ℕ, zero, suc, ◌<◌, ◌==◌, List, [], ◌∷◌, true, false, nat_lt, Option, Some, None, length, get_or, refl, arith, ap, sym, ◌∙◌, inl, inr, subst, eq-eqb, ne_eqb}
 use Rattle.std.proofs.lemmas.Bool.{cases_lt, cond-true, cond-false}
 use Rattle.std.proofs.lemmas.Bool as bool
-use Rattle.std.proofs.lemmas.Option.{none-some, same_Some, slice_get-get_or, slice_get_within}
+use Rattle.std.proofs.lemmas.Option.{none-some, same_Some, slice_get-get_or, slice_get_cases, slice_get_within}
 use Rattle.std.specs.List.{AllWithin, find, slice_get}
 use Rattle.std.specs.List.Sorted.{IsPartitionedBy, IsPartitionPoint}
-use Rattle.std.specs.Option.{option_map}
+use Rattle.std.specs.Option.{IsSomeAnd, option_map}
 use Rattle.rh_journal.specs.ShownWords.{IsAscending, words_with}
 
 abbrev pub Pair : Type 0
@@ -78,3 +78,32 @@ absent_here q at pairs up point d other = sym (absent_at q at pairs up point unl
     unlike p is =
         let within = slice_get_within pairs at p is in
         ne_eqb p.0 q (λ same. other within (ap (λ (x : Pair). x.0) (same_Some (get_or pairs at d) p (sym (slice_get-get_or pairs at d within) ∙ is)) ∙ same))
+
+-- a promise that stands at a place parts those below it from the others there
+pub parts_there : (q at : ℕ) (pairs : List Pair) → IsAscending pairs → IsSomeAnd (slice_get pairs at) (λ p. p.0 ≡ q) → IsPartitionPoint (λ x. nat_lt x.0 q ≡ true) (λ x. nat_lt x.0 q ≡ false) pairs at
+parts_there q at pairs up is = (low, high)
+  where
+    there : at < length pairs
+    there = elim (slice_get_cases pairs at).1 [
+      | inl found ↦ found.1
+      | inr past ↦ absurd (subst (λ (o : Option Pair). IsSomeAnd o (λ p. p.0 ≡ q)) past.1 is)
+    ]
+
+    here : (d : Pair) → (get_or pairs at d).0 ≡ q
+    here d = subst (λ (o : Option Pair). IsSomeAnd o (λ p. p.0 ≡ q)) (slice_get-get_or pairs at d there) is
+
+    low : AllWithin (λ x. nat_lt x.0 q ≡ true) pairs 0 at
+    low k d from within =
+        let rises = up k at d within there in
+        let same = here d in
+        bool.lt-ltb (get_or pairs k d).0 q (omega arith)
+
+    high : AllWithin (λ x. nat_lt x.0 q ≡ false) pairs at (length pairs)
+    high k d from within =
+        let same = here d in
+        elim (cases_lt at k) [
+          | inl later ↦ let rises = up at k d later within in bool.le-ltb (get_or pairs k d).0 q (omega arith)
+          | inr other ↦
+              let e : at ≡ k = omega arith in
+              subst (λ (n : ℕ). nat_lt (get_or pairs n d).0 q ≡ false) e (bool.le-ltb (get_or pairs at d).0 q (omega arith))
+        ]

@@ -5,8 +5,6 @@
 mod event;
 mod laws;
 mod outcome;
-#[cfg(test)]
-mod tests;
 
 pub use event::{Entry, Event};
 pub use laws::{one_thread_tells, references_are_left, telling_journals_tell_results};

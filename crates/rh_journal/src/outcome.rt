@@ -1,6 +1,6 @@
 //! What a run leaves.
 
-ghost use Rattle.std.specs.Prelude.{◌≡◌, ◌<◌, ◌≤◌, ◌++◌, ◌∷◌, [], true, false, nat_lt, OnOk, OnErr, length};
+ghost use Rattle.std.specs.Prelude.{◌≡◌, ◌<◌, ◌≤◌, ◌++◌, ◌∷◌, [], true, false, nat_lt, IsSomeAnd, OnOk, OnErr, length, slice_get};
 ghost use Rattle.std.specs.List.{AllByRecursion};
 ghost use Rattle.std.specs.List.Sorted.{IsPartitionPoint};
 ghost use Rattle.std.specs.Option.{option_copied};
@@ -127,7 +127,20 @@ fn first_not_below(pairs: &[(u32, Words)], promise: u32) -> usize
     ensures within { result ≤ length pairs.now }
     ensures point { IsPartitionPoint (λ p. nat_lt p.0 promise ≡ true) (λ p. nat_lt p.0 promise ≡ false) pairs.now result }
 {
+    if stands_by_number(pairs, promise) {
+        return promise as usize;
+    }
     pairs.partition_point(|pair| pair.0 < promise)
+}
+
+/// Whether the promise stands at the place of its number, as it does where all below it are there too.
+fn stands_by_number(pairs: &[(u32, Words)], promise: u32) -> bool
+    ensures { result ≡ true → IsSomeAnd (slice_get pairs.now promise) (λ p. p.0 ≡ promise) }
+{
+    match pairs.get(promise as usize) {
+        Some(pair) => pair.0 == promise,
+        None => false,
+    }
 }
 
 /// The journal of a run, and the words of the promises that the report shows.

@@ -4,8 +4,6 @@
 
 mod pieces;
 mod sources;
-#[cfg(test)]
-mod tests;
 mod totals;
 mod word_by_word;
 

@@ -36,7 +36,7 @@ use Rattle.rh_plain.specs.Values.{words_at, has_words, kept_or, AreGiven}
 use Rattle.rh_plain.specs.Drawing.{Drawn, HasDrawn, Draws, listed_events}
 use Rattle.rh_plain.specs.Holding.{HoldsWords, KeepsWords}
 use Rattle.rh_plain.specs.Listing.{HasLists}
-use Rattle.rh_plain.specs.declared.listing.Lists.{Lists}
+use Rattle.rh_plain.specs.NodeLists.{NodeLists}
 use Rattle.rh_plain.specs.declared.progress.Ending.{Ending}
 use Rattle.rh_plain.specs.Recording.{IsEndingOf, FitsPlan, HasTold}
 use Rattle.rh_plain.specs.Runs.{Progress, progress, AnswersNode, HasAwaited, IsBefore, IsSoFar, made_by}
@@ -140,7 +140,7 @@ cut_events v has node r =
     ap (λ (l : List Event). Claim v ∷ l) (append_assoc tries (puts ++ voids) rest ∙ ap (λ (l : List Event). tries ++ l) (append_assoc puts voids rest))
 
 -- one more node has ended
-recorded : (plan : PlanData) (faults : List Strike) (v : ℕ) (node : Node) (r : NodeResult) (old : Progress) (lists : Lists) (puts : List MadePut) (new : Drawn) (given kept : List (Option (List ℕ))) (verdicts : List Verdict)
+recorded : (plan : PlanData) (faults : List Strike) (v : ℕ) (node : Node) (r : NodeResult) (old : Progress) (lists : NodeLists) (puts : List MadePut) (new : Drawn) (given kept : List (Option (List ℕ))) (verdicts : List Verdict)
     → IsLawfulPlan plan → slice_get plan.nodes v ≡ Some node → r ≡ row (run_of plan faults) v node → IsSoFar plan faults v old
     → HasLists (has_words old.values) node r lists → puts ≡ made_by node.puts r.verdict r.accepted → AreGiven (λ q. words_put q puts) old.values given
     → Draws plan old.drawn new (listed_events v r.verdict r.trials lists.puts lists.voids lists.released) → KeepsWords plan old.drawn given kept (listed_events v r.verdict r.trials lists.puts lists.voids lists.released)

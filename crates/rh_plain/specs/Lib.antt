@@ -5,6 +5,7 @@ pub mod Values
 pub mod Endings
 pub mod Drawing
 pub mod Holding
+pub mod NodeLists
 pub mod Listing
 pub mod Runs
 pub mod Recording

@@ -37,10 +37,8 @@ impl History {
         for _ in 0..count {
             gone.push(0)?;
         }
-        Ok(History {
-            entries: Vec::new(alloc),
-            gone,
-        })
+        let entries = Vec::with_capacity(alloc, usual_count(plan))?;
+        Ok(History { entries, gone })
     }
 
     /// The journal.
@@ -151,6 +149,15 @@ impl History {
         }
         Ok(())
     }
+}
+
+/// How many entries to make room for: those of tasks with one attempt each, and of promises with three references each.
+fn usual_count(plan: &Plan) -> usize {
+    let nodes = plan.nodes() as usize;
+    let promises = plan.promises() as usize;
+    nodes
+        .saturating_mul(3)
+        .saturating_add(promises.saturating_mul(5))
 }
 
 /// How many entries there are.

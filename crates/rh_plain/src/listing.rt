@@ -1,28 +1,69 @@
 //! Which promises a node put, which it did not put, and of which it gives up references.
 
-ghost use Rattle.std.specs.Prelude.{◌≡◌, ◌<◌, ◌++◌, ◌&&◌, not, IfOk, OnOk, length};
+ghost use Rattle.std.specs.Prelude.{◌≡◌, ◌<◌, ◌≤◌, ◌++◌, ◌&&◌, not, IfOk, OnOk, drop, length, map};
 ghost use Rattle.std.specs.List.{filter};
 ghost use Rattle.rh_rules.specs.Tables.{is_in};
 ghost use Rattle.rh_plan.specs.Plans.{OfNode};
-ghost use Rattle.rh_journal.specs.Own.{promises_of, drops_by, puts_by, voids_by, released_by, put_attempt};
+ghost use Rattle.rh_journal.specs.Own.{promises_of, drops_by, puts_by, put_attempt};
 ghost use Rattle.rh_schemes.specs.Judges.{result_data};
 ghost use Rattle.rh_plain.specs.Values.{has_words};
-ghost use Rattle.rh_plain.specs.Listing.{HasLists};
+ghost use Rattle.rh_plain.specs.Listing.{HasLists, awaits_released};
 
 use crate::values::Values;
 use rh_attempt::Buffer;
-use rh_plan::{Plan, Verdict};
+use rh_plan::{MadePut, Plan, Verdict};
 use rh_rules::Numbers;
 use rh_schemes::NodeResult;
 use rh_words::OutOfMemory;
 use std::alloc::Global;
+use std::marker::Model;
 
-/// The promises that a node put, those that it did not put, and those of which it gives up a reference.
+/// The promises that a node put, those that it did not put, and those of which it gives up a reference. Those that it put are the last of the
+/// latter.
 #[derive(Drop)]
 pub(crate) struct Lists {
-    pub(crate) puts: Numbers,
-    pub(crate) voids: Numbers,
-    pub(crate) released: Numbers,
+    voids: Numbers,
+    released: Numbers,
+    first_put: usize,
+}
+
+impl Model for Lists {
+    ghost use Rattle.std.specs.Prelude.{◌≤◌, length};
+    ghost use Rattle.rh_plain.specs.NodeLists.{NodeLists, node_lists};
+
+    ghost Value = { NodeLists };
+
+    ghost view = { λ l. node_lists l.first_put l.voids l.released };
+
+    ghost invariant = { λ l. l.first_put ≤ length l.released };
+}
+
+impl Lists {
+    pub(crate) fn puts(&self) -> &[u32]
+        ensures { result.now ≡ self.now.puts }
+    {
+        from(&self.released, self.first_put)
+    }
+
+    pub(crate) fn voids(&self) -> &[u32]
+        ensures { result.now ≡ self.now.voids }
+    {
+        self.voids.as_slice()
+    }
+
+    pub(crate) fn released(&self) -> &[u32]
+        ensures { result.now ≡ self.now.released }
+    {
+        self.released.as_slice()
+    }
+}
+
+/// The numbers from a place on.
+fn from(numbers: &Numbers, first: usize) -> &[u32]
+    requires { first ≤ length numbers.now }
+    ensures { result.now ≡ drop first numbers.now }
+{
+    &numbers.as_slice()[first..]
 }
 
 /// The lists of a node that ended so. `values` are those before its own puts.
@@ -36,35 +77,50 @@ pub(crate) fn lists_of(
     requires { node < length plan.now.nodes }
     ensures { IfOk result (λ l. OfNode plan.now node (λ x. HasLists (has_words values.now) x (result_data ended.now) l)) }
 {
-    let puts = put_list(alloc, plan, node, ended)?;
-    let voids = void_list(alloc, plan, node, puts.as_slice())?;
-    let released = release_list(alloc, plan, node, ended, puts.as_slice(), values)?;
+    let mut released = await_list(alloc, plan, node, ended, values)?;
+    let first_put = released.as_slice().len();
+    append_puts(plan, node, ended, &mut released)?;
+    let voids = void_list(alloc, plan, node, from(&released, first_put))?;
     Ok(Lists {
-        puts,
         voids,
         released,
+        first_put,
     })
 }
 
-/// The promises that a node put, in buffer order.
-fn put_list(
+/// The awaited promises of which a node gives up a reference: those that its accepted buffer drops, and its others that have words.
+fn await_list(
     alloc: Global,
     plan: &Plan,
     node: u32,
     ended: &NodeResult,
+    values: &Values,
 ) -> Result<Numbers, OutOfMemory>
     requires { node < length plan.now.nodes }
-    ensures { IfOk result (λ n. OfNode plan.now node (λ x. n ≡ puts_by x (result_data ended.now))) }
+    ensures { IfOk result (λ n. OfNode plan.now node (λ x. n ≡ awaits_released (has_words values.now) x (result_data ended.now))) }
+{
+    let mut promises = Numbers::new(alloc);
+    let drops = drop_list(&ended.accepted);
+    append(&mut promises, drops)?;
+    append_valued(&mut promises, plan.awaits(node), drops, values)?;
+    Ok(promises)
+}
+
+/// Puts the promises that a node put behind others, in buffer order.
+fn append_puts(
+    plan: &Plan,
+    node: u32,
+    ended: &NodeResult,
+    into: &mut Numbers,
+) -> Result<(), OutOfMemory>
+    requires { node < length plan.now.nodes }
+    ensures { OnOk result (OfNode plan.now node (λ x. into.new ≡ into.old ++ puts_by x (result_data ended.now))) }
 {
     match ended.verdict {
-        Verdict::Accepted { .. } => promises_put(alloc, &ended.accepted),
-        Verdict::Corrected { .. } => promises_put(alloc, &ended.accepted),
-        Verdict::Ended { .. } => {
-            let mut promises = Numbers::new(alloc);
-            append(&mut promises, plan.puts(node))?;
-            Ok(promises)
-        }
-        _ => Ok(Numbers::new(alloc)),
+        Verdict::Accepted { .. } => append_buffer(into, &ended.accepted),
+        Verdict::Corrected { .. } => append_buffer(into, &ended.accepted),
+        Verdict::Ended { .. } => append(into, plan.puts(node)),
+        _ => Ok(()),
     }
 }
 
@@ -78,27 +134,6 @@ fn void_list(alloc: Global, plan: &Plan, node: u32, puts: &[u32]) -> Result<Numb
     Ok(voids)
 }
 
-/// The promises of which a node gives up a reference: those that its accepted buffer drops, its other awaits that have words, and those that it put.
-fn release_list(
-    alloc: Global,
-    plan: &Plan,
-    node: u32,
-    ended: &NodeResult,
-    puts: &[u32],
-    values: &Values,
-) -> Result<Numbers, OutOfMemory>
-    requires within { node < length plan.now.nodes }
-    requires puts { OfNode plan.now node (λ x. puts.now ≡ puts_by x (result_data ended.now)) }
-    ensures { IfOk result (λ n. OfNode plan.now node (λ x. n ≡ released_by (has_words values.now) x (result_data ended.now))) }
-{
-    let mut promises = Numbers::new(alloc);
-    let drops = drop_list(&ended.accepted);
-    append(&mut promises, drops)?;
-    append_valued(&mut promises, plan.awaits(node), drops, values)?;
-    append(&mut promises, puts)?;
-    Ok(promises)
-}
-
 /// The attempt of a node's puts.
 pub(crate) fn attempt_of(verdict: Verdict) -> u32
     ensures { result ≡ put_attempt verdict }
@@ -109,17 +144,24 @@ pub(crate) fn attempt_of(verdict: Verdict) -> u32
     }
 }
 
-/// The promises that an accepted buffer puts.
-fn promises_put(alloc: Global, accepted: &Option<Buffer>) -> Result<Numbers, OutOfMemory>
-    ensures { IfOk result (λ n. n ≡ promises_of accepted.now) }
+/// Puts the promises that an accepted buffer puts behind others.
+fn append_buffer(into: &mut Numbers, accepted: &Option<Buffer>) -> Result<(), OutOfMemory>
+    ensures { OnOk result (into.new ≡ into.old ++ promises_of accepted.now) }
 {
-    let mut promises = Numbers::new(alloc);
-    if let Some(buffer) = accepted {
-        for put in buffer.puts() {
-            promises.push(put.promise)?;
-        }
+    match accepted {
+        Some(buffer) => append_made(into, buffer.puts()),
+        None => Ok(()),
     }
-    Ok(promises)
+}
+
+/// Puts the promises of puts behind others.
+fn append_made(into: &mut Numbers, puts: &[MadePut]) -> Result<(), OutOfMemory>
+    ensures { OnOk result (into.new ≡ into.old ++ map (λ p. p.promise) puts.now) }
+{
+    for put in puts {
+        into.push(put.promise)?;
+    }
+    Ok(())
 }
 
 /// The awaited promises that an accepted buffer drops.

@@ -192,7 +192,7 @@ fn tell_ended(
     ensures kept { OnOk result (KeepsWords plan.now history.old values.old values.new (listed_events node verdict trials.now lists.now.puts lists.now.voids lists.now.released)) }
 {
     begin(plan, node, verdict, trials, lists, history)?;
-    release_all(plan, lists.released.as_slice(), node, history, values)?;
+    release_all(plan, lists.released(), node, history, values)?;
     history.draw(plan, Event::Decide { node, verdict })?;
     Ok(())
 }
@@ -227,7 +227,7 @@ fn begin(
 {
     history.draw(plan, Event::Claim { node })?;
     history.attempts(plan, node, trials)?;
-    history.puts(plan, lists.puts.as_slice(), attempt_of(verdict))?;
-    history.voids(plan, lists.voids.as_slice())?;
+    history.puts(plan, lists.puts(), attempt_of(verdict))?;
+    history.voids(plan, lists.voids())?;
     Ok(())
 }

@@ -7,7 +7,7 @@ ghost use Rattle.rh_plan.specs.Judging.{node_result};
 ghost use Rattle.rh_plan.specs.Users.{AreChecksOf};
 ghost use Rattle.rh_journal.specs.Own.{run_of};
 ghost use Rattle.rh_journal.specs.OneThread.{one_thread};
-ghost use Rattle.rh_journal.specs.Tells.{shown_words};
+ghost use Rattle.rh_journal.specs.Tells.{Tells, shown_words};
 ghost use Rattle.rh_schemes.specs.Judges.{result_data};
 ghost use Rattle.rh_plain.specs.Values.{has_words};
 ghost use Rattle.rh_plain.specs.Endings.{has_opened, group_verdict};
@@ -19,7 +19,7 @@ use crate::progress::Progress;
 use crate::values::Values;
 use rh_check::Checks;
 use rh_injector::Faults;
-use rh_journal::Outcome;
+use rh_journal::{Outcome, one_thread_tells};
 use rh_plan::{Cause, Plan, Verdict};
 use rh_rules::Kind;
 use rh_schemes::{Gate, NodeResult, Trials, judge};
@@ -41,7 +41,9 @@ pub fn run_plain<C: Checks, G: Gate>(
     requires checks { AreChecksOf plan.now (C.specs checks.now) }
     ensures journal { IfOk result (λ outcome. outcome.journal ≡ one_thread (run_of plan.now faults.now)) }
     ensures shown { IfOk result (λ outcome. outcome.shown ≡ shown_words (run_of plan.now faults.now)) }
+    ensures tells { IfOk result (λ outcome. Tells (run_of plan.now faults.now) outcome.journal outcome.shown) }
 {
+    one_thread_tells();
     let mut progress = Progress::new(alloc, plan)?;
     for node in 0..plan.nodes() {
         run_next(alloc, plan, node, faults, checks, gate, &mut progress)?;

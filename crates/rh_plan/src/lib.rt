@@ -5,8 +5,6 @@
 
 mod attempt_limit;
 mod blaming;
-#[cfg(test)]
-mod block_tests;
 mod edge;
 mod edges;
 mod fault_place;
@@ -23,8 +21,6 @@ mod references;
 mod resolving;
 mod tables;
 mod task_numbers;
-#[cfg(test)]
-mod tests;
 
 pub use edge::Edge;
 pub use laws::{

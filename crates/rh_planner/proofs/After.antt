@@ -1,9 +1,8 @@
 -- What each kind of statement adds to the facts above.
-use Rattle.std.proofs.Common.{◌≡◌, ℕ, ◌+◌, List, [], ◌∷◌, ◌++◌, Bool, true, false, arith, refl, map, append-nil, ap, Option, Some, None, length}
+use Rattle.std.proofs.Common.{◌≡◌, ℕ, ◌+◌, List, [], ◌∷◌, ◌++◌, Bool, true, false, arith, refl, map, append-nil, Option, Some, None}
 use Rattle.std.specs.Prelude.{option_to_list}
 use Rattle.std.specs.Option.{option_map}
 use Rattle.rh_task_text.specs.declared.statement.Statement.TheVariants as text
-use Rattle.rh_task_text.specs.declared.statement.SchemeText.TheVariants.{Plain}
 use Rattle.rh_sparse.specs.Matrix.{MatrixData, matrix_data}
 use Rattle.rh_rules.specs.Tables.{declared_promise, promise_number, number_of, putting, given, named_shape}
 use Rattle.rh_rules.specs.Facets.{facets, cells_of}

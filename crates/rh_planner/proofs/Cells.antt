@@ -1,6 +1,6 @@
 -- The cells of columns and values, one pair after another.
-use Rattle.std.proofs.Common.{◌≡◌, ℕ, ◌+◌, ◌<◌, List, [], ◌∷◌, ◌++◌, length, get_or, take, refl, arith, ap, sym, ◌∙◌}
-use Rattle.std.proofs.lemmas.List.{take_more, take_all, length-take}
+use Rattle.std.proofs.Common.{◌≡◌, ℕ, ◌+◌, ◌<◌, List, [], ◌∷◌, ◌++◌, length, get_or, take, refl, arith, ap, ◌∙◌}
+use Rattle.std.proofs.lemmas.List.{take_more, length-take}
 use Rattle.rh_sparse.specs.declared.matrix.Cell.{Cell}
 use Rattle.rh_rules.specs.Facets.{cell, cells_of}
 

@@ -14,7 +14,7 @@ use Rattle.rh_check.specs.Users.{HandedChecks, user_named}
 use Rattle.rh_rules.specs.declared.node.PlannedPromise.{PlannedPromise}
 use Rattle.rh_rules.specs.declared.shape.NamedShape.{NamedShape}
 use Rattle.rh_rules.specs.Kept.{KeptCheck}
-use Rattle.rh_rules.specs.Tables.{LocalName, promise_at, promise_named, promise_number, promise_len, is_in}
+use Rattle.rh_rules.specs.Tables.{LocalName, promise_at, promise_number, promise_len, is_in}
 use Rattle.rh_rules.specs.Facets.{facets}
 use Rattle.rh_rules.specs.Bodies.{promises_put}
 use Rattle.rh_rules.specs.Above.{Look, Facts, checks_by, check_of, spec_asked, asked_place, matrix_used, shape_used, lens_read, with_row}

@@ -1,12 +1,18 @@
 -- One more name, promise or put among what is declared.
-use Rattle.std.proofs.Common.{◌≡◌, ℕ, ◌+◌, ◌<◌, ◌≤◌, List, [], ◌∷◌, ◌++◌, Bool, true, false, cond, ◌||◌, ◌&&◌, not, Option, Some, None, map, length, refl, ap, sym, ◌∙◌, subst, arith, suc, zero, sum, set, get_or, length-append, ◌⊎◌, inl, inr}
+use Rattle.std.proofs.Common.{◌≡◌, ℕ, ◌+◌, ◌<◌, ◌≤◌, List, [], ◌∷◌, ◌++◌, Bool, true, false, cond, ◌||◌, ◌&&◌, not, Option, Some, None, map, length, refl, ap, sym, ◌∙◌, subst, arith, suc, sum, set, get_or, length-append, ◌⊎◌, inl, inr}
 use Rattle.std.proofs.Math.ListN.{length-set}
 use Rattle.std.proofs.Math.Seq.{map-set_same}
 use Rattle.std.specs.Prelude.{IfSome, slice_get, option_and_then, nat_lt, nat_le}
-use Rattle.std.specs.Option.{is_some, option_map}
+use Rattle.std.specs.Option.{is_some}
 use Rattle.std.specs.Cmp.Lexicographic.{nat_list_eq_equiv}
 use Rattle.std.specs.Str.{bytes_eq}
-use Rattle.std.specs.BTreeMap.{BTreeMap}
+use Rattle.std.specs.HashMap.{HashMap}
+use Rattle.std.specs.Map.{lookup}
+use Rattle.std.specs.Result.{IfOk, OnErr}
+use Rattle.std.specs.declared.result.Result.{Result}
+use Rattle.std.proofs.Common.{Ok, Err}
+use Rattle.rh_words.specs.declared.reason.OutOfMemory.{OutOfMemory}
+use Rattle.rh_planner.specs.MapKeys.{map_key, keys_eq}
 use Rattle.std.specs.List.{position, list_any, IsDistinct, AllByRecursion}
 use Rattle.std.proofs.lemmas.Map.Keys.{IsDistinct-push, IsDistinct-head, IsDistinct-tail}
 use Rattle.std.proofs.lemmas.List.Folds.{list_any-append}
@@ -15,28 +21,27 @@ use Rattle.std.proofs.lemmas.List.{map-append}
 use Rattle.std.proofs.lemmas.List.Sums.{sum-map, sum_by_push}
 use Rattle.std.proofs.lemmas.Slice.Eq.{bytes_eq-Decides}
 use Rattle.std.proofs.lemmas.Bool.{false≢true}
-use Rattle.std.proofs.Math.Bool.{or-false}
 use Rattle.std.proofs.lemmas.Bool.Decides.{nat_tests}
 use Rattle.rh_rules.specs.declared.node.PlannedPromise.{PlannedPromise}
-use Rattle.rh_rules.specs.Tables.{Putting, putting, declared_promise, is_among, promise_at, is_put, if_any}
+use Rattle.rh_rules.specs.Tables.{putting, declared_promise, is_among, promise_at, is_put, if_any}
 use Rattle.rh_rules.specs.Above.{words_in, shown_in}
 use Rattle.rh_rules.specs.Rules.{is_promise_over}
 use Rattle.rh_planner.specs.Declarations.{AreFound, IsNoted, at_name, number_found}
 use Rattle.rh_words.specs.Naming.{is_name}
-use Rattle.rh_words.specs.declared.name_key.NameKey.{NameKey}
-use Rattle.rh_planner.proofs.NameKeys.{KeysTellNames, keys_compare}
+use Rattle.rh_planner.specs.declared.map_key.MapKey.{MapKey}
+use Rattle.rh_planner.proofs.NameKeys.{KeysTellNames, keys_equal}
 use Rattle.rh_rules.specs.Tables.{or_else, given}
 use Rattle.rh_planner.proofs.FirstPlaces.{place_or, first_place, next_place, position_push, position-first, position_map, is_some_position}
 
-abbrev Known : Type 0
-Known = BTreeMap NameKey (Option ℕ)
+abbrev Known : Type 0 → Type 0
+Known S = HashMap MapKey (Option ℕ) S
 
 same_name : (a b : List ℕ) → bytes_eq a b ≡ true → a ≡ b
 same_name a b h = (bytes_eq-Decides a b).0 h
 
 -- a look-up after an insertion, by the bytes
-inserted_at : KeysTellNames → (old new : Known) (name : List ℕ) (number : Option ℕ) → is_name name ≡ true → IsNoted old new name number → (q : List ℕ) → is_name q ≡ true → at_name new q ≡ cond (bytes_eq name q) (Some number) (at_name old q)
-inserted_at law old new name number is h q named = h q ∙ ap (λ t. cond t (Some number) (at_name old q)) (keys_compare law name q is named)
+inserted_at : KeysTellNames → {S : Type 0} (old new : Known S) (name : List ℕ) (number : Option ℕ) → is_name name ≡ true → IsNoted old new name number → (q : List ℕ) → is_name q ≡ true → at_name new q ≡ cond (bytes_eq name q) (Some number) (at_name old q)
+inserted_at law old new name number is h q named = h q ∙ ap (λ t. cond t (Some number) (at_name old q)) (keys_equal law name q is named)
 
 some_or : (t : Bool) (n : Option ℕ) (o : Option (Option ℕ)) (u : Bool) → is_some o ≡ u → is_some (cond t (Some n) o) ≡ (u || (t || false))
 some_or true n o true h = refl
@@ -44,7 +49,7 @@ some_or true n o false h = refl
 some_or false n o true h = h
 some_or false n o false h = h
 
-there_after : KeysTellNames → (old new : Known) (names : List (List ℕ)) (name : List ℕ) (number : Option ℕ) → is_name name ≡ true → ((q : List ℕ) → is_name q ≡ true → is_some (at_name old q) ≡ is_among q names) → IsNoted old new name number
+there_after : KeysTellNames → {S : Type 0} (old new : Known S) (names : List (List ℕ)) (name : List ℕ) (number : Option ℕ) → is_name name ≡ true → ((q : List ℕ) → is_name q ≡ true → is_some (at_name old q) ≡ is_among q names) → IsNoted old new name number
     → (q : List ℕ) → is_name q ≡ true → is_some (at_name new q) ≡ is_among q (names ++ name ∷ [])
 there_after law old new names name number is there h q named =
     ap is_some (inserted_at law old new name number is h q named)
@@ -56,14 +61,14 @@ none_of None e = refl
 none_of (Some n) e = absurd (false≢true (sym e))
 
 -- a name that is not declared has no promise
-no_promise : (known : Known) (names : List (List ℕ)) (promises : List PlannedPromise) (w s : ℕ) → AreFound known names promises w s → (q : List ℕ) → is_name q ≡ true → is_among q names ≡ false → promise_at q promises ≡ None
+no_promise : {S : Type 0} → (known : Known S) (names : List (List ℕ)) (promises : List PlannedPromise) (w s : ℕ) → AreFound known names promises w s → (q : List ℕ) → is_name q ≡ true → is_among q names ≡ false → promise_at q promises ≡ None
 no_promise known names promises w s found q is fresh = sym (found.number q is) ∙ none_of (at_name known q) (found.there q is ∙ fresh)
 
 number_kept : (t : Bool) (o : Option (Option ℕ)) (p : Option ℕ) → number_found o ≡ p → (t ≡ true → p ≡ None) → number_found (cond t (Some None) o) ≡ p
 number_kept true o p h fresh = sym (fresh refl)
 number_kept false o p h fresh = h
 
-pub name_found : KeysTellNames → (old new : Known) (names : List (List ℕ)) (promises : List PlannedPromise) (w s : ℕ) (name : List ℕ) → is_name name ≡ true → AreFound old names promises w s → is_among name names ≡ false → IsNoted old new name None
+pub name_found : KeysTellNames → {S : Type 0} (old new : Known S) (names : List (List ℕ)) (promises : List PlannedPromise) (w s : ℕ) (name : List ℕ) → is_name name ≡ true → AreFound old names promises w s → is_among name names ≡ false → IsNoted old new name None
     → AreFound new (names ++ name ∷ []) promises w s
 name_found law old new names promises w s name is found fresh h = record {
   there = there_after law old new names name None is found.there h;
@@ -77,6 +82,35 @@ name_found law old new names promises w s name is found fresh h = record {
   total = found.total;
   shown_total = found.shown_total;
 }
+
+-- a map of the same entries finds the same
+pub same_found : {S : Type 0} (old new : Known S) (names : List (List ℕ)) (promises : List PlannedPromise) (w s : ℕ) → new.entries ≡ old.entries → AreFound old names promises w s → AreFound new names promises w s
+same_found old new names promises w s same found = record {
+  there = λ q named. ap (λ (es : List (MapKey × Option ℕ)). is_some (lookup (keys_eq (map_key q)) es)) same ∙ found.there q named;
+  number = λ q named. ap (λ (es : List (MapKey × Option ℕ)). number_found (lookup (keys_eq (map_key q)) es)) same ∙ found.number q named;
+  distinct = found.distinct;
+  words = found.words;
+  shown = found.shown;
+  few = found.few;
+  total = found.total;
+  shown_total = found.shown_total;
+}
+
+pub fresh_name : (names : List (List ℕ)) (name : List ℕ) (o : Option (Option ℕ)) → is_some o ≡ is_among name names → true ≡ not (is_some o) → is_among name names ≡ false
+fresh_name names name None there fresh = sym there
+fresh_name names name (Some n) there fresh = absurd (false≢true (sym fresh))
+
+-- after a name is added or is not, by what was answered
+pub noted_found : KeysTellNames → {S : Type 0} (old new : Known S) (names more : List (List ℕ)) (promises : List PlannedPromise) (w s : ℕ) (name : List ℕ) → is_name name ≡ true → AreFound old names promises w s → (result : Result Bool OutOfMemory)
+    → IfOk result (λ added. added ≡ not (is_some (at_name old name))) → IfOk result (λ added. added ≡ true → more ≡ names ++ name ∷ []) → IfOk result (λ added. added ≡ true → IsNoted old new name None)
+    → IfOk result (λ added. added ≡ false → more ≡ names) → IfOk result (λ added. added ≡ false → new.entries ≡ old.entries) → OnErr result (more ≡ names) → OnErr result (new.entries ≡ old.entries)
+    → AreFound new more promises w s
+noted_found law old new names more promises w s name is found (Ok true) fresh added noted same same_known kept kept_known =
+    subst (λ (ns : List (List ℕ)). AreFound new ns promises w s) (sym (added refl)) (name_found law old new names promises w s name is found (fresh_name names name (at_name old name) (found.there name is) fresh) (noted refl))
+noted_found law old new names more promises w s name is found (Ok false) fresh added noted same same_known kept kept_known =
+    subst (λ (ns : List (List ℕ)). AreFound new ns promises w s) (sym (same refl)) (same_found old new names promises w s (same_known refl) found)
+noted_found law old new names more promises w s name is found (Err e) fresh added noted same same_known kept kept_known =
+    subst (λ (ns : List (List ℕ)). AreFound new ns promises w s) (sym kept) (same_found old new names promises w s kept_known found)
 
 number_added : (t : Bool) (n : ℕ) (o : Option (Option ℕ)) (p : Option ℕ) → number_found o ≡ p → (t ≡ true → p ≡ None) → number_found (cond t (Some (Some n)) o) ≡ place_or p (cond t (Some n) None)
 number_added true n o p h fresh = ap (λ x. place_or x (Some n)) (sym (fresh refl))
@@ -100,7 +134,7 @@ neither : (a b : Bool) → (a || b) ≡ false → (a ≡ false) × (b ≡ false)
 neither true b e = absurd (false≢true (sym e))
 neither false b e = (refl, e)
 
-pub promise_found : KeysTellNames → (old new : Known) (names : List (List ℕ)) (promises : List PlannedPromise) (w s : ℕ) (p : PlannedPromise) → is_name p.name ≡ true → AreFound old names promises w s → is_among p.name names ≡ false
+pub promise_found : KeysTellNames → {S : Type 0} (old new : Known S) (names : List (List ℕ)) (promises : List PlannedPromise) (w s : ℕ) (p : PlannedPromise) → is_name p.name ≡ true → AreFound old names promises w s → is_among p.name names ≡ false
     → IsNoted old new p.name (Some (length promises)) → is_promise_over promises p ≡ false
     → AreFound new (names ++ p.name ∷ []) (promises ++ p ∷ []) (w + p.len) (s + cond (not p.temp && not p.scope) p.len 0)
 promise_found law old new names promises w s p is found fresh h room = record {
@@ -132,10 +166,10 @@ promise_found law old new names promises w s p is found fresh h room = record {
         (grind (arith, nat_tests), grind (arith, nat_tests), grind (arith, nat_tests))
 
 -- nothing is found in an empty map
-pub none_there : (known : Known) → known.entries ≡ [] → (q : List ℕ) → is_name q ≡ true → is_some (at_name known q) ≡ false
+pub none_there : {S : Type 0} → (known : Known S) → known.entries ≡ [] → (q : List ℕ) → is_name q ≡ true → is_some (at_name known q) ≡ false
 none_there known e q named = rw e refl
 
-pub none_numbered : (known : Known) → known.entries ≡ [] → (q : List ℕ) → is_name q ≡ true → number_found (at_name known q) ≡ None
+pub none_numbered : {S : Type 0} → (known : Known S) → known.entries ≡ [] → (q : List ℕ) → is_name q ≡ true → number_found (at_name known q) ≡ None
 none_numbered known e q named = rw e refl
 
 -- promises that do not have this name are not given this put
@@ -178,7 +212,7 @@ put_first q node i (p ∷ ps) d distinct found unput = elim (first_cases (bytes_
 ]
 
 -- another putter changes neither the names nor the lengths
-pub put_found : (known : Known) (names : List (List ℕ)) (ps : List PlannedPromise) (w s i : ℕ) (y d : PlannedPromise) → AreFound known names ps w s
+pub put_found : {S : Type 0} → (known : Known S) (names : List (List ℕ)) (ps : List PlannedPromise) (w s i : ℕ) (y d : PlannedPromise) → AreFound known names ps w s
     → y.name ≡ (get_or ps i d).name → y.len ≡ (get_or ps i d).len → y.temp ≡ (get_or ps i d).temp → y.scope ≡ (get_or ps i d).scope → AreFound known names (set ps i y) w s
 put_found known names ps w s i y d found name len temp scope =
     let same_names : map (λ p. p.name) (set ps i y) ≡ map (λ p. p.name) ps = map-set_same (λ p. p.name) ps i y d name in

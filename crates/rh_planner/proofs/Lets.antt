@@ -1,5 +1,5 @@
 -- What a `let` line adds to the facts above, and why it is refused.
-use Rattle.std.proofs.Common.{◌≡◌, ℕ, ◌+◌, List, [], ◌++◌, Option, Some, None, true, refl, arith, append-nil, Result, Ok, Err, sym, ap, ◌∙◌, subst}
+use Rattle.std.proofs.Common.{◌≡◌, ℕ, ◌+◌, List, [], ◌++◌, Option, Some, None, refl, arith, append-nil, Result, Ok, Err, sym, ap, ◌∙◌, subst}
 use Rattle.std.specs.Prelude.{IfOk, option_to_list}
 use Rattle.std.specs.Option.{option_map}
 use Rattle.rh_words.specs.declared.reason.OutOfMemory.{OutOfMemory}

@@ -1,10 +1,10 @@
 -- What a check reads, by the numbers of the awaits.
-use Rattle.std.proofs.Common.{◌≡◌, ℕ, List, [], ◌∷◌, Bool, true, false, ◌||◌, not, Option, Some, None, map, refl, ap, sym, ◌∙◌}
+use Rattle.std.proofs.Common.{◌≡◌, ℕ, List, [], ◌∷◌, Bool, true, false, ◌||◌, not, Option, Some, None, refl, ap, ◌∙◌}
 use Rattle.std.specs.List.{list_any}
 use Rattle.std.specs.Prelude.{is_some, nat_lt}
-use Rattle.std.proofs.lemmas.Bool.{false≢true, true≢false}
+use Rattle.std.proofs.lemmas.Bool.{false≢true}
 use Rattle.rh_task_text.specs.declared.statement.Statement.{Statement}
-use Rattle.rh_rules.specs.Tables.{LocalName, if_any, is_in, place_of, is_local, number_of}
+use Rattle.rh_rules.specs.Tables.{LocalName, if_any, is_in, place_of, is_local}
 use Rattle.rh_rules.specs.declared.shape.NamedShape.{NamedShape}
 use Rattle.rh_rules.specs.Facets.{facets}
 use Rattle.rh_rules.specs.Rules.{is_among_first}

@@ -1,5 +1,5 @@
 -- A statement that is refused is judged, whatever the planner has become.
-use Rattle.std.proofs.Common.{◌≡◌, Some, None, sym}
+use Rattle.std.proofs.Common.{◌≡◌, Some, sym}
 use Rattle.std.proofs.lemmas.Option.{none-some}
 use Rattle.rh_words.specs.declared.reason.Reason.{Reason}
 use Rattle.rh_task_text.specs.declared.statement.Statement.{Statement}

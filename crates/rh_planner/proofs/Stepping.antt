@@ -6,7 +6,7 @@ use Rattle.std.specs.Prelude.{◌||◌, ◌==◌}
 use Rattle.std.specs.List.{list_any}
 use Rattle.std.proofs.lemmas.List.Folds.{list_any-append}
 use Rattle.rh_rules.specs.Tables.{is_in}
-use Rattle.rh_rules.specs.Bodies.{promises_put, put_at, drops_of, drop_at}
+use Rattle.rh_rules.specs.Bodies.{promises_put, put_at}
 
 pub promises_put_push : (xs : List Step) (y : Step) → promises_put (xs ++ y ∷ []) ≡ promises_put xs ++ put_at y
 promises_put_push [] y = append-nil (put_at y)

@@ -1,5 +1,5 @@
 -- What a line uses, by the numbers of the locals.
-use Rattle.std.proofs.Common.{◌≡◌, ℕ, List, [], ◌∷◌, Bool, true, false, ◌||◌, not, Option, Some, None, map, length, refl, ap, sym, ◌∙◌}
+use Rattle.std.proofs.Common.{◌≡◌, ℕ, List, [], ◌∷◌, Bool, true, false, ◌||◌, not, Option, Some, None, map, refl, ap, ◌∙◌}
 use Rattle.std.specs.List.{list_any}
 use Rattle.std.specs.Prelude.{is_some, unwrap_or, slice_get, option_and_then}
 use Rattle.std.proofs.lemmas.Bool.{false≢true, true≢false}
@@ -8,7 +8,7 @@ use Rattle.rh_rules.specs.Tables.{LocalName, if_any, is_in, place_of, is_local, 
 use Rattle.rh_rules.specs.declared.node.PlannedPromise.{PlannedPromise}
 use Rattle.rh_rules.specs.declared.shape.NamedShape.{NamedShape}
 use Rattle.rh_rules.specs.Facets.{facets}
-use Rattle.rh_rules.specs.Above.{numbers_used, lens_used}
+use Rattle.rh_rules.specs.Above.{numbers_used}
 use Rattle.rh_planner.specs.Making.{uses_unknown, uses_dropped, names_no_matrix}
 
 pub not_false : (b : Bool) → not b ≡ false → b ≡ true

@@ -1,11 +1,12 @@
--- What is declared so far, and how it is found by name through one ordered map.
+-- What is declared so far, and how it is found by name through one map.
 use Rattle.std.specs.Prelude.{ℕ, ◌≡◌, ◌≤◌, List, Option, Some, None, map, true, is_some, length, cond}
-use Rattle.std.specs.BTreeMap.{BTreeMap, get, is_at}
+use Rattle.std.specs.HashMap.{HashMap, get}
 use Rattle.std.specs.List.{IsDistinct}
 use Rattle.std.specs.Ordering.{nat_cmp, ordering_then}
 use Rattle.std.specs.declared.cmp.Ordering.{Ordering}
 use Rattle.rh_words.specs.Naming.{is_name}
-use Rattle.rh_words.specs.NameKeys.{name_key}
+use Rattle.rh_planner.specs.declared.map_key.MapKey.{MapKey}
+use Rattle.rh_planner.specs.MapKeys.{map_key, keys_eq}
 use Rattle.rh_words.specs.declared.name_key.NameKey.{NameKey}
 use Rattle.std.specs.Str.{bytes_eq}
 use Rattle.rh_words.specs.declared.limits.TheConstants.{MAX_PROMISES, MAX_TOTAL_WORDS, MAX_SHOWN_WORDS}
@@ -26,12 +27,12 @@ abbrev pub key_cmp : NameKey → NameKey → Ordering
 key_cmp a b = ordering_then (nat_cmp a.first b.first) (ordering_then (nat_cmp a.second b.second) (ordering_then (nat_cmp a.third b.third) (nat_cmp a.fourth b.fourth)))
 
 -- what a map by keys has at a name
-abbrev pub at_name : BTreeMap NameKey (Option ℕ) → List ℕ → Option (Option ℕ)
-at_name known name = get key_cmp known (name_key name)
+abbrev pub at_name : {S : Type 0} → HashMap MapKey (Option ℕ) S → List ℕ → Option (Option ℕ)
+at_name known name = get keys_eq known (map_key name)
 
 -- the map has this name too, with this number
-abbrev pub IsNoted : BTreeMap NameKey (Option ℕ) → BTreeMap NameKey (Option ℕ) → List ℕ → Option ℕ → Type 0
-IsNoted old new name number = (q : List ℕ) → at_name new q ≡ cond (is_at (key_cmp (name_key name)) (name_key q)) (Some number) (at_name old q)
+abbrev pub IsNoted : {S : Type 0} → HashMap MapKey (Option ℕ) S → HashMap MapKey (Option ℕ) S → List ℕ → Option ℕ → Type 0
+IsNoted old new name number = (q : List ℕ) → at_name new q ≡ cond (keys_eq (map_key name) (map_key q)) (Some number) (at_name old q)
 
 -- the number of the promise of a name that is found
 abbrev pub number_found : Option (Option ℕ) → Option ℕ
@@ -39,7 +40,7 @@ number_found None = None
 number_found (Some number) = number
 
 -- The map has each name that is declared, with the number of its promise where it has one. No two promises have one name, and the sums are those of the promises.
-pub record AreFound (known : BTreeMap NameKey (Option ℕ)) (names : List (List ℕ)) (promises : List PlannedPromise) (sum shown_sum : ℕ) : Type 0 where
+pub record AreFound {S : Type 0} (known : HashMap MapKey (Option ℕ) S) (names : List (List ℕ)) (promises : List PlannedPromise) (sum shown_sum : ℕ) : Type 0 where
   pub there : (name : List ℕ) → is_name name ≡ true → is_some (at_name known name) ≡ is_among name names
   pub number : (name : List ℕ) → is_name name ≡ true → number_found (at_name known name) ≡ promise_at name promises
   pub distinct : IsDistinct bytes_eq (map (λ p. p.name) promises)

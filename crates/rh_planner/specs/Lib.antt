@@ -1,3 +1,4 @@
+pub mod MapKeys
 pub mod Declarations
 pub mod Following
 pub mod Making

@@ -13,8 +13,8 @@ use Rattle.rh_rules.specs.Kept.{KeptCheck}
 use Rattle.rh_rules.specs.Lawful.{has_product}
 use Rattle.rh_rules.specs.Tables.{LocalName, if_any, is_among, is_in, place_of, is_local, number_of, is_promise, is_put, is_matrix}
 use Rattle.rh_rules.specs.Facets.{facets}
-use Rattle.rh_rules.specs.Rules.{are_distinct, is_among_first, is_bad_scheme, may_check, is_corrected, asks_product}
-use Rattle.rh_rules.specs.Above.{matrix_used, shape_used, lens_used, lens_read, made_len, numbers_used}
+use Rattle.rh_rules.specs.Rules.{are_distinct, is_among_first, is_bad_scheme, is_promise_over, may_check, is_corrected, asks_product}
+use Rattle.rh_rules.specs.Above.{matrix_used, shape_used, lens_used, lens_read, made_len}
 use Rattle.rh_rules.specs.Bodies.{promises_put}
 use Rattle.rh_rules.specs.declared.body.Step.{Step}
 use Rattle.rh_rules.specs.declared.node.Scheme.{Scheme}
@@ -75,6 +75,10 @@ check_reason number len body scheme checks n ms ls drops s =
     (cond (not ((facets s).suits (shape_used ms s) len (lens_read ls s))) (Some reasons.Length)
     (cond (not (may_check scheme) || asks_product s && (is_corrected scheme && has_product checks)) (Some reasons.Scheme)
     (cond (reads_dropped ls drops s) (Some reasons.Dropped) None)))
+
+-- of a promise below these names and promises
+abbrev pub promise_reason : List (List ℕ) → List PlannedPromise → PlannedPromise → Option Reason
+promise_reason names promises p = cond (is_among p.name names) (Some reasons.Twice) (cond (is_promise_over promises p) (Some reasons.PlanLimit) None)
 
 -- of a matrix of this name below so many matrices
 abbrev pub matrix_reason : List (List ℕ) → ℕ → List ℕ → Option Reason

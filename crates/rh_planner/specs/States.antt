@@ -1,5 +1,5 @@
 -- What the planner keeps of the statements above a line.
-use Rattle.std.specs.Prelude.{◌≡◌, ◌≤◌, ◌<◌, ◌+◌, List, [], ◌∷◌, Option, Some, None, true, false, length, ⊤, ℕ, map, option_to_list}
+use Rattle.std.specs.Prelude.{◌≡◌, ◌≤◌, ◌<◌, ◌+◌, List, [], ◌∷◌, Option, Some, None, true, false, length, ⊤}
 use Rattle.std.specs.List.{AllByRecursion}
 use Rattle.rh_words.specs.declared.limits.TheConstants.{MAX_NODES, MAX_AWAITS, MAX_LETS, MAX_MATRICES, MAX_MATRIX_SIDE}
 use Rattle.rh_words.specs.declared.reason.Reason.{Reason}

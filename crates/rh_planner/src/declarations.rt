@@ -1,24 +1,26 @@
 //! The names and promises that the lines above declare.
 
-ghost use Rattle.std.specs.Prelude.{◌≡◌, ◌<◌, ◌≤◌, ◌++◌, ◌∷◌, [], List, ℕ, Some, None, OnOk, OnErr, IfSome, length, false, not, cond, ◌&&◌};
+ghost use Rattle.std.specs.Prelude.{◌≡◌, ◌<◌, ◌≤◌, ◌++◌, ◌∷◌, [], List, ℕ, Some, None, IfOk, OnErr, IfSome, is_some, length, true, false, not, cond, ◌&&◌};
 ghost use Rattle.rh_words.specs.Naming.{is_name};
 ghost use Rattle.rh_rules.specs.Tables.{declared_promise, putting, is_among, promise_at, is_put};
 ghost use Rattle.rh_rules.specs.Rules.{is_promise_over};
-ghost use Rattle.rh_planner.specs.Declarations.{declarations, IsNoted};
+ghost use Rattle.rh_planner.specs.Declarations.{declarations, at_name, IsNoted};
+ghost use Rattle.rh_planner.specs.Making.{promise_reason};
 ghost use Rattle.rh_rules.specs.Tables.{put_all};
 
+use crate::map_key::MapKey;
 use rh_rules::PlannedPromise;
 use rh_words::limits::{MAX_PROMISES, MAX_SHOWN_WORDS, MAX_TOTAL_WORDS};
-use rh_words::{Name, NameKey, OutOfMemory, keys_tell_names_apart};
+use rh_words::{Name, OutOfMemory, Reason, keys_tell_names_apart};
 use std::alloc::Global;
-use std::collections::BTreeMap;
+use std::collections::HashMap;
 use std::marker::Model;
 
-/// The names that are declared, found through one ordered map, and the promises among them, by their numbers.
+/// The names that are declared, found through one map, and the promises among them, by their numbers.
 #[derive(Drop)]
 pub struct Declared {
     /// By name the number of its promise, or none where it is another's name.
-    known: BTreeMap<NameKey, Option<u32>>,
+    known: HashMap<MapKey, Option<u32>>,
     names: Vec<Name>,
     promises: Vec<PlannedPromise>,
     /// How many words the promises have, and how many of these a report shows.
@@ -41,7 +43,7 @@ impl Declared {
         ensures { result ≡ declarations [] [] }
     {
         Declared {
-            known: BTreeMap::new(alloc),
+            known: HashMap::new(alloc),
             names: Vec::new(alloc),
             promises: Vec::new(alloc),
             words: 0,
@@ -62,39 +64,30 @@ impl Declared {
         self.promises.as_slice()
     }
 
-    /// Whether the name is declared.
-    pub fn has(&self, name: &Name) -> bool
-        ensures { result ≡ is_among name.now self.now.names }
-    {
-        let _is_name = name.bytes();
-        self.known.contains_key(&name.key())
-    }
-
     /// The number of the promise of the name.
     pub fn promise(&self, name: &Name) -> Option<u32>
         ensures number { result ≡ promise_at name.now self.now.promises }
         ensures within { IfSome result (λ i. i < length self.now.promises) }
     {
         let _is_name = name.bytes();
-        match self.known.get(&name.key()) {
+        match self.known.get(&MapKey::of(name)) {
             Some(number) => *number,
             None => None,
         }
     }
 
-    /// Adds a name that is no promise's.
-    pub fn add_name(&mut self, name: Name) -> Result<(), OutOfMemory>
-        requires { is_among name self.old.names ≡ false }
-        ensures { OnOk result (self.new ≡ declarations (self.old.names ++ name ∷ []) self.old.promises) }
+    /// Adds a name that is no promise's, where it is not declared above. Whether it is added.
+    pub fn add_name(&mut self, name: Name) -> Result<bool, OutOfMemory>
+        ensures fresh { IfOk result (λ added. added ≡ not (is_among name self.old.names)) }
+        ensures added { IfOk result (λ added. added ≡ true → self.new ≡ declarations (self.old.names ++ name ∷ []) self.old.promises) }
     {
         keys_tell_names_apart();
         let _is_name = name.bytes();
-        note(&mut self.names, &mut self.known, name, None)?;
-        Ok(())
+        note(&mut self.names, &mut self.known, name, None)
     }
 
     /// Whether one more promise goes beyond a limit.
-    pub fn is_over(&self, len: u32, temp: bool, scope: bool) -> bool
+    fn is_over(&self, len: u32, temp: bool, scope: bool) -> bool
         requires { len ≤ 4096 }
         ensures { result ≡ is_promise_over self.now.promises (declared_promise [] len temp scope) }
     {
@@ -103,19 +96,21 @@ impl Declared {
             || self.shown + shown_words(len, temp, scope) > MAX_SHOWN_WORDS
     }
 
-    /// Adds a promise, which is within the limits.
+    /// Adds a promise, or says why it is refused.
     pub fn add_promise(
         &mut self,
         name: Name,
         len: u32,
         temp: bool,
         scope: bool,
-    ) -> Result<(), OutOfMemory>
-        requires fresh { is_among name self.old.names ≡ false }
+    ) -> Result<Option<Reason>, OutOfMemory>
         requires short { len ≤ 4096 }
-        requires room { is_promise_over self.old.promises (declared_promise [] len temp scope) ≡ false }
-        ensures { OnOk result (self.new ≡ declarations (self.old.names ++ name ∷ []) (self.old.promises ++ declared_promise name len temp scope ∷ [])) }
+        ensures reason { IfOk result (λ answer. answer ≡ promise_reason self.old.names self.old.promises (declared_promise name len temp scope)) }
+        ensures added { IfOk result (λ answer. answer ≡ None → self.new ≡ declarations (self.old.names ++ name ∷ []) (self.old.promises ++ declared_promise name len temp scope ∷ [])) }
     {
+        if self.is_over(len, temp, scope) {
+            return Ok(Some(self.reason_over(&name)));
+        }
         keys_tell_names_apart();
         let _is_name = name.bytes();
         let number = self.promises.len() as u32;
@@ -127,16 +122,39 @@ impl Declared {
             scope,
         })?;
         match note(&mut self.names, &mut self.known, name, Some(number)) {
-            Ok(()) => {
+            Ok(true) => {
                 self.words += u64::from(len);
                 self.shown += shown_words(len, temp, scope);
-                Ok(())
+                Ok(None)
+            }
+            Ok(false) => {
+                self.promises.pop();
+                Ok(Some(Reason::Twice))
             }
             Err(fault) => {
                 self.promises.pop();
                 Err(fault)
             }
         }
+    }
+
+    /// Why a promise of this name that goes beyond a limit is refused.
+    fn reason_over(&self, name: &Name) -> Reason
+        ensures { result ≡ cond (is_among name.now self.now.names) Reason.Twice Reason.PlanLimit }
+    {
+        if self.has(name) {
+            Reason::Twice
+        } else {
+            Reason::PlanLimit
+        }
+    }
+
+    /// Whether the name is declared.
+    fn has(&self, name: &Name) -> bool
+        ensures { result ≡ is_among name.now self.now.names }
+    {
+        let _is_name = name.bytes();
+        self.known.contains_key(&MapKey::of(name))
     }
 
     /// The node of this number puts the promise, which nothing puts above.
@@ -157,21 +175,28 @@ fn shown_words(len: u32, temp: bool, scope: bool) -> u64
     if temp || scope { 0 } else { u64::from(len) }
 }
 
-/// Adds a name with its number, or nothing where there is no memory.
+/// Adds a name with its number, where it is not there. Whether it is added.
 fn note(
     names: &mut Vec<Name>,
-    known: &mut BTreeMap<NameKey, Option<u32>>,
+    known: &mut HashMap<MapKey, Option<u32>>,
     name: Name,
     number: Option<u32>,
-) -> Result<(), OutOfMemory>
-    ensures names { OnOk result (names.new.items ≡ names.old.items ++ name ∷ []) }
-    ensures noted { OnOk result (IsNoted known.old known.new name number) }
+) -> Result<bool, OutOfMemory>
+    ensures fresh { IfOk result (λ added. added ≡ not (is_some (at_name known.old name))) }
+    ensures names { IfOk result (λ added. added ≡ true → names.new.items ≡ names.old.items ++ name ∷ []) }
+    ensures noted { IfOk result (λ added. added ≡ true → IsNoted known.old known.new name number) }
+    ensures same_names { IfOk result (λ added. added ≡ false → names.new.items ≡ names.old.items) }
+    ensures same_known { IfOk result (λ added. added ≡ false → known.new.entries ≡ known.old.entries) }
     ensures names_kept { OnErr result (names.new.items ≡ names.old.items) }
     ensures known_kept { OnErr result (known.new.entries ≡ known.old.entries) }
 {
+    let key = MapKey::of(&name);
+    if known.contains_key(&key) {
+        return Ok(false);
+    }
     names.push(name)?;
-    match known.insert(name.key(), number) {
-        Ok(_) => Ok(()),
+    match known.insert(key, number) {
+        Ok(_) => Ok(true),
         Err(_) => {
             names.pop();
             Err(OutOfMemory)

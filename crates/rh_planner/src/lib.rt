@@ -8,14 +8,13 @@ mod blocks;
 mod declarations;
 mod handed;
 mod laws;
+mod map_key;
 mod matrices;
 mod node;
 mod open_task;
 mod planned;
 mod planner;
 mod planning;
-#[cfg(test)]
-mod tests;
 mod used;
 
 pub use laws::{

@@ -5,6 +5,7 @@ ghost use Rattle.rh_words.specs.declared.limits.TheConstants.{MAX_PROMISE_WORDS,
 ghost use Rattle.rh_task_text.specs.declared.statement.Statement.TheVariants as text;
 ghost use Rattle.rh_rules.specs.Facets.{facets, cells_of};
 ghost use Rattle.rh_rules.specs.Limits.{IsWithinLimits};
+ghost use Rattle.rh_rules.specs.declared.node.Scheme.TheVariants.{Plain};
 ghost use Rattle.rh_rules.specs.Above.{facts_above, planned_scheme, asked_place, group_in, lets_of, task_node, scope_node};
 ghost use Rattle.rh_rules.specs.Rules.{is_bad_scheme, is_unanswered};
 ghost use Rattle.rh_rules.specs.Tables.{is_promise, promise_number, is_put, putting, put_all};
@@ -21,15 +22,16 @@ use crate::handed::Handed;
 use crate::matrices::{add_row, close_matrix};
 use crate::node::{group_node, lets_of, scope_node, task_node};
 use crate::open_task::OpenTask;
+use crate::planned::Drafts;
 use rh_check::Matrices;
 use rh_rules::{
-    Body, CheckList, NamedShape, Node, Numbers, OpenBlock, PlannedCheck, PlannedPromise, Scheme,
-    Shape, Step, asked, place_of, spec_of,
+    Body, CheckList, NamedShape, Node, Numbers, OpenBlock, PlannedCheck, Scheme, Shape, Step,
+    asked, made, place_of, spec_of,
 };
 use rh_sparse::{Cell, Matrix};
 use rh_task_text::{SchemeText, Statement};
 use rh_words::limits::{MAX_MATRICES, MAX_NODES};
-use rh_words::{Name, NameList, OutOfMemory, Reason};
+use rh_words::{Name, NameList, OutOfMemory, Reason, Words};
 use std::alloc::Global;
 use std::mem;
 
@@ -72,10 +74,10 @@ impl Planner {
     }
 
     /// The nodes, the promises, and the matrices that are closed.
-    pub fn into_lists(self) -> (Vec<Node>, Vec<PlannedPromise>, Matrices)
-        ensures nodes { result.0 ≡ self.nodes }
-        ensures promises { result.1.items ≡ self.declared.promises }
-        ensures matrices { result.2 ≡ self.closed }
+    pub fn into_drafts(self) -> Drafts
+        ensures nodes { result.nodes ≡ self.nodes }
+        ensures promises { result.promises.items ≡ self.declared.promises }
+        ensures matrices { result.matrices ≡ self.closed }
     {
         let Planner {
             handed: _,
@@ -88,7 +90,11 @@ impl Planner {
             blocks: _,
             task: _,
         } = self;
-        (nodes, declared.into_promises(), closed)
+        Drafts {
+            nodes,
+            promises: declared.into_promises(),
+            matrices: closed,
+        }
     }
 
     #[tactic(auto, unfolding(rh_rules::specs::Facets::facets))]
@@ -96,14 +102,7 @@ impl Planner {
         requires { len ≤ MAX_PROMISE_WORDS }
         ensures { IfOk result (λ answer. Judges self.old (text.Promise name len temp) self.new answer) }
     {
-        if self.declared.has(&name) {
-            return Ok(Some(Reason::Twice));
-        }
-        if self.declared.is_over(len as u32, temp, false) {
-            return Ok(Some(Reason::PlanLimit));
-        }
-        self.declared.add_promise(name, len as u32, temp, false)?;
-        Ok(None)
+        self.declared.add_promise(name, len as u32, temp, false)
     }
 
     #[tactic(auto, unfolding(rh_rules::specs::Facets::facets))]
@@ -146,13 +145,9 @@ impl Planner {
         requires { HasRoom self.old }
         ensures { IfOk result (λ answer. Judges self.old (text.Finish name) self.new answer) }
     {
-        if self.declared.has(&name) {
-            return Ok(Some(Reason::Twice));
+        if let Some(reason) = self.declared.add_promise(name, SCOPE_WORDS, false, true)? {
+            return Ok(Some(reason));
         }
-        if self.declared.is_over(SCOPE_WORDS, false, true) {
-            return Ok(Some(Reason::PlanLimit));
-        }
-        self.declared.add_promise(name, SCOPE_WORDS, false, true)?;
         let first = self.nodes.len() as u32;
         self.begun = None;
         self.blocks.push(OpenBlock::ScopeBlock { name, first })?;
@@ -166,19 +161,24 @@ impl Planner {
         &mut self,
         alloc: Global,
         name: Name,
-        shape: Shape,
+        rows: u64,
+        cols: u64,
     ) -> Result<Option<Reason>, OutOfMemory>
-        requires some { 1 ≤ shape.cols }
-        requires few { shape.cols ≤ MAX_MATRIX_SIDE }
-        ensures { IfOk result (λ answer. Judges self.old (text.Matrix name shape.rows shape.cols) self.new answer) }
+        requires some { 1 ≤ cols }
+        requires few { cols ≤ MAX_MATRIX_SIDE }
+        requires low { rows ≤ MAX_MATRIX_SIDE }
+        ensures { IfOk result (λ answer. Judges self.old (text.Matrix name rows cols) self.new answer) }
     {
-        if self.declared.has(&name) {
+        if !self.declared.add_name(name)? {
             return Ok(Some(Reason::Twice));
         }
         if self.matrices.len() >= MAX_MATRICES {
             return Ok(Some(Reason::PlanLimit));
         }
-        self.declared.add_name(name)?;
+        let shape = Shape {
+            rows: rows as u32,
+            cols: cols as u32,
+        };
         self.matrices.push(NamedShape { name, shape })?;
         self.begun = Some(Matrix::new(alloc, shape.cols));
         self.blocks.push(OpenBlock::MatrixBlock)?;
@@ -188,40 +188,57 @@ impl Planner {
 
     /// Adds a row to the open matrix.
     #[tactic(auto, unfolding(rh_rules::specs::Facets::facets))]
-    fn row(&mut self, columns: &[u64], values: &[u64]) -> Result<Option<Reason>, OutOfMemory>
+    fn row(&mut self, columns: &Words, values: &Words) -> Result<Option<Reason>, OutOfMemory>
         requires pairs { length columns.now ≡ length values.now }
         requires values { AllByRecursion (λ v. v ≤ MAX_CELL_VALUE) values.now }
         requires row { TakesRow self.old.begun (text.Row columns.now values.now) }
         ensures { IfOk result (λ answer. Judges self.old (text.Row columns.now values.now) self.new answer) }
     {
         if let Some(matrix) = &mut self.begun {
-            add_row(&mut self.cells, matrix, columns, values)?;
+            add_row(
+                &mut self.cells,
+                matrix,
+                columns.as_slice(),
+                values.as_slice(),
+            )?;
         }
         Ok(None)
     }
 
-    /// Why a task of this name and scheme, or a group as if it were plain, that awaits these is refused. Where it is not, `inputs` are the numbers of what it awaits.
+    /// Declares a task of this name and scheme, or a group as if it were plain, that awaits these, or says why it is refused. The open
+    /// task then has the numbers of what it awaits.
     #[tactic(auto, using(crate::proofs::Using::is_put_numbers))]
-    fn start_reason(
-        &self,
-        name: &Name,
+    fn start(
+        &mut self,
+        alloc: Global,
+        name: Name,
         scheme: SchemeText,
         names: &[Name],
-        inputs: &mut Numbers,
     ) -> Result<Option<Reason>, OutOfMemory>
-        requires { inputs.old ≡ [] }
-        ensures reason { IfOk result (λ answer. answer ≡ start_reason self.now.declared.names self.now.declared.promises (length self.now.nodes.items) name.now scheme names.now) }
-        ensures inputs { IfOk result (λ answer. answer ≡ None → inputs.new ≡ map (promise_number self.now.declared.promises) names.now) }
-        ensures known { IfOk result (λ answer. answer ≡ None → list_any (λ q. not (is_promise self.now.declared.promises q)) names.now ≡ false) }
+        ensures reason { IfOk result (λ answer. answer ≡ start_reason self.old.declared.names self.old.declared.promises (length self.old.nodes.items) name scheme names.now) }
+        ensures inputs { IfOk result (λ answer. answer ≡ None → self.new.task.inputs ≡ map (promise_number self.old.declared.promises) names.now) }
+        ensures known { IfOk result (λ answer. answer ≡ None → list_any (λ q. not (is_promise self.old.declared.promises q)) names.now ≡ false) }
         ensures schemed { IfOk result (λ answer. answer ≡ None → is_bad_scheme scheme ≡ false) }
+        ensures declared { IfOk result (λ answer. answer ≡ None → self.new.declared ≡ declarations (self.old.declared.names ++ name ∷ []) self.old.declared.promises) }
+        ensures locals { self.new.task.locals.items ≡ [] }
+        ensures drops { self.new.task.drops.items ≡ [] }
+        ensures body { self.new.task.body ≡ [] }
+        ensures scheme { self.new.task.scheme ≡ Plain }
+        ensures checks { self.new.task.checks ≡ [] }
+        ensures handed { self.new.handed ≡ self.old.handed }
+        ensures matrices { self.new.matrices ≡ self.old.matrices }
+        ensures closed { self.new.closed ≡ self.old.closed }
+        ensures nodes { self.new.nodes ≡ self.old.nodes }
+        ensures blocks { self.new.blocks ≡ self.old.blocks }
     {
-        if self.declared.has(name) || !are_distinct(names) {
+        self.task.clear(alloc);
+        if !self.declared.add_name(name)? || !are_distinct(names) {
             return Ok(Some(Reason::Twice));
         }
-        if !find_promises(&self.declared, names, inputs)? {
+        if !find_promises(&self.declared, names, &mut self.task.inputs)? {
             return Ok(Some(Reason::Unknown));
         }
-        if is_any_unput(self.declared.promises(), inputs.as_slice()) {
+        if is_any_unput(self.declared.promises(), self.task.inputs.as_slice()) {
             return Ok(Some(Reason::Order));
         }
         if is_bad_scheme(scheme) {
@@ -245,18 +262,13 @@ impl Planner {
         ensures { IfOk result (λ answer. Judges self.old (text.Task name scheme awaits.now) self.new answer) }
     {
         let names = awaits.as_slice();
-        let mut inputs = Numbers::new(alloc);
-        if let Some(reason) = self.start_reason(&name, scheme, names, &mut inputs)? {
+        if let Some(reason) = self.start(alloc, name, scheme, names)? {
             return Ok(Some(reason));
         }
-        let promises = self.declared.promises();
-        await_locals(promises, names, inputs.as_slice(), &mut self.task.locals)?;
-        self.task.inputs = inputs;
-        self.task.drops.clear();
-        self.task.body = Body::new(alloc);
         self.task.scheme = planned_scheme(scheme);
-        self.task.checks = CheckList::new(alloc);
-        self.declared.add_name(name)?;
+        let promises = self.declared.promises();
+        let inputs = self.task.inputs.as_slice();
+        await_locals(promises, names, inputs, &mut self.task.locals)?;
         self.begun = None;
         self.blocks.push(OpenBlock::TaskBlock(name))?;
         Ok(None)
@@ -273,22 +285,15 @@ impl Planner {
         requires { HasRoom self.old }
         ensures { IfOk result (λ answer. Judges self.old (text.Group name awaits.now) self.new answer) }
     {
-        let mut inputs = Numbers::new(alloc);
-        if let Some(reason) = self.start_reason(
-            &name,
-            SchemeText::Plain,
-            awaits.as_slice(),
-            &mut inputs,
-        )? {
+        if let Some(reason) = self.start(alloc, name, SchemeText::Plain, awaits.as_slice())? {
             return Ok(Some(reason));
         }
-        self.declared.add_name(name)?;
         let number = self.nodes.len() as u32;
+        let inputs = mem::replace(&mut self.task.inputs, Numbers::new(alloc));
         let node = group_node(alloc, name, inputs, self.blocks.group());
         self.nodes.push(node)?;
         self.begun = None;
         self.blocks.push(OpenBlock::GroupBlock(number))?;
-        self.task.clear(alloc);
         Ok(None)
     }
 
@@ -437,16 +442,16 @@ impl Planner {
         requires row { TakesRow self.old.begun statement.now }
         ensures { IfOk result (λ answer. Judges self.old statement.now self.new answer) }
     {
+        if let Some(x) = made(statement) {
+            return self.make(alloc, x, statement);
+        }
+        if let Some(promise) = checked(statement) {
+            return self.check(statement, &promise);
+        }
         match statement {
             Statement::Promise { name, len, temp } => self.promise(*name, *len, *temp),
-            Statement::Matrix { name, rows, cols } => {
-                let shape = Shape {
-                    rows: *rows as u32,
-                    cols: *cols as u32,
-                };
-                self.matrix(alloc, *name, shape)
-            }
-            Statement::Row { columns, values } => self.row(columns.as_slice(), values.as_slice()),
+            Statement::Matrix { name, rows, cols } => self.matrix(alloc, *name, *rows, *cols),
+            Statement::Row { columns, values } => self.row(columns, values),
             Statement::Task {
                 name,
                 scheme,
@@ -457,28 +462,25 @@ impl Planner {
             Statement::End => self.end(alloc),
             Statement::Put { promise, .. } => self.put(statement, promise),
             Statement::DropAwait { promise } => self.drop_await(promise),
-            Statement::LetLit { x, .. }
-            | Statement::LetGen { x, .. }
-            | Statement::LetAdd { x, .. }
-            | Statement::LetSub { x, .. }
-            | Statement::LetMul { x, .. }
-            | Statement::LetScale { x, .. }
-            | Statement::LetShift { x, .. }
-            | Statement::LetCut { x, .. }
-            | Statement::LetJoin { x, .. }
-            | Statement::LetSum { x, .. }
-            | Statement::LetCount { x, .. }
-            | Statement::LetStencil1 { x, .. }
-            | Statement::LetStencil2 { x, .. }
-            | Statement::LetProduct { x, .. } => self.make(alloc, *x, statement),
-            Statement::CheckRange { promise, .. }
-            | Statement::CheckTotal { promise, .. }
-            | Statement::CheckLinear { promise, .. }
-            | Statement::CheckConserve { promise, .. }
-            | Statement::CheckConserve2 { promise, .. }
-            | Statement::CheckProduct { promise, .. }
-            | Statement::CheckUser { promise, .. } => self.check(statement, promise),
+            _ => unreachable!(),
         }
+    }
+}
+
+/// The name of the promise that the statement checks.
+#[tactic(auto, unfolding(rh_rules::specs::Facets::facets))]
+fn checked(statement: &Statement) -> Option<Name>
+    ensures { result ≡ (facets statement.now).checked }
+{
+    match statement {
+        Statement::CheckRange { promise, .. }
+        | Statement::CheckTotal { promise, .. }
+        | Statement::CheckLinear { promise, .. }
+        | Statement::CheckConserve { promise, .. }
+        | Statement::CheckConserve2 { promise, .. }
+        | Statement::CheckProduct { promise, .. }
+        | Statement::CheckUser { promise, .. } => Some(*promise),
+        _ => None,
     }
 }
 

@@ -1,5 +1,5 @@
 -- Whether a task failed, by what a journal tells.
-use Rattle.std.proofs.Common.{◌≡◌, ◌∙◌, ◌||◌, ℕ, Bool, List, [], ◌∷◌, map, length, refl, ap, sym, subst}
+use Rattle.std.proofs.Common.{◌≡◌, ◌∙◌, ◌||◌, ℕ, Bool, List, [], ◌∷◌, map, length, refl, ap, subst}
 use Rattle.std.specs.List.{list_any}
 use Rattle.rh_injector.specs.declared.faults.Strike.{Strike}
 use Rattle.rh_plan.specs.declared.outcome.Verdict.{Verdict}

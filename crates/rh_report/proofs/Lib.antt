@@ -3,3 +3,4 @@ pub mod Looking
 pub mod Gathered
 pub mod AnyFailed
 pub mod FaultFree
+pub mod Pieces

@@ -49,6 +49,10 @@ abbrev pub attempt_lines : ℕ → List Trial → List ℕ
 attempt_lines k [] = []
 attempt_lines k (t ∷ trials) = attempt_line k t ++ attempt_lines (k + 1) trials
 
+-- how a node ended, behind its name, and the lines of its attempts
+abbrev pub end_lines : PlanData → Verdict → List Trial → List ℕ
+end_lines plan verdict trials = ending_text plan verdict ++ codes "\n" ++ attempt_lines 0 trials
+
 abbrev pub word_of : Option Node → List ℕ
 word_of None = []
 word_of (Some node) = kind_word node.kind

@@ -4,7 +4,7 @@ ghost use Rattle.std.specs.Prelude.{◌≡◌, [], None, slice_index_or, unwrap_
 ghost use Rattle.std.specs.Option.{option_copied};
 ghost use Rattle.rh_plan.specs.declared.outcome.Verdict.TheVariants.{Failed};
 
-use crate::told::Attempts;
+use crate::trials::Trials;
 use rh_plan::{Trial, Verdict};
 use rh_words::Words;
 
@@ -19,7 +19,7 @@ pub(crate) fn verdict_at(verdicts: &[Verdict], node: u32) -> Verdict
 }
 
 /// How the attempts of a node ended.
-pub(crate) fn trials_at(attempts: &[Attempts], node: u32) -> &[Trial]
+pub(crate) fn trials_at(attempts: &[Trials], node: u32) -> &[Trial]
     ensures { result.now ≡ slice_index_or attempts.now node [] }
 {
     match attempts.get(node as usize) {

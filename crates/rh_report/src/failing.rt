@@ -31,7 +31,7 @@ pub fn has_failed(
 }
 
 /// Whether one of the verdicts is that of a failed task.
-fn is_any_failed(verdicts: &[Verdict]) -> bool
+pub(crate) fn is_any_failed(verdicts: &[Verdict]) -> bool
     ensures { result ≡ list_any is_failed verdicts.now }
 {
     verdicts.iter().any(|v| is_failed(*v))

@@ -12,7 +12,8 @@ mod promises;
 mod report;
 mod told;
 mod totals;
+mod trials;
 
 pub use failing::has_failed;
 pub use laws::reports_are_fault_free;
-pub use report::print_report;
+pub use report::{print_outcome, print_report};

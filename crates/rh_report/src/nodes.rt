@@ -1,7 +1,9 @@
 //! The lines of nodes and of their attempts.
 
-ghost use Rattle.std.specs.Prelude.{◌≡◌, ◌<◌, ◌++◌, OnOk, length};
-ghost use Rattle.rh_report.specs.NodeLines.{attempt_line, attempt_lines, counts_text, ending_text, kind_word, node_lines, trial_text, word_at};
+ghost use Rattle.std.specs.Prelude.{◌≡◌, ◌<◌, ◌++◌, ◌∷◌, [], true, OnOk, length};
+ghost use Rattle.rh_plan.specs.declared.outcome.Trial.TheVariants as trials;
+ghost use Rattle.rh_plan.specs.declared.outcome.Verdict.TheVariants.{Accepted};
+ghost use Rattle.rh_report.specs.NodeLines.{attempt_line, attempt_lines, counts_text, end_lines, ending_text, kind_word, node_lines, trial_text, word_at};
 ghost use Rattle.rh_report.specs.Reports.{nodes_text};
 
 use crate::ends::{trials_at, verdict_at};
@@ -41,9 +43,70 @@ fn print_node(
 {
     into.append(word_at(plan, node))?;
     print_node_name(plan, node, into)?;
-    print_ending(alloc, plan, verdict_at(told.verdicts(), node), into)?;
+    let verdict = verdict_at(told.verdicts(), node);
+    print_end(alloc, plan, verdict, trials_at(told.attempts(), node), into)?;
+    Ok(())
+}
+
+/// Appends how a node ended, and the lines of its attempts. Those of a task whose one attempt was accepted, as nearly all are where nothing is
+/// faulted, are at hand as a whole.
+#[tactic(auto, using(std::proofs::Common::append_assoc))]
+fn print_end(
+    alloc: Global,
+    plan: &Plan,
+    verdict: Verdict,
+    trials: &[Trial],
+    into: &mut Bytes,
+) -> Result<(), OutOfMemory>
+    ensures { OnOk result (into.new ≡ into.old ++ end_lines plan.now verdict trials.now) }
+{
+    if is_first_accepted(verdict) && is_one_accepted(trials) {
+        return into.append(b" accepted 0\n  attempt 0 accepted\n");
+    }
+    print_each(alloc, plan, verdict, trials, into)
+}
+
+/// Whether a task ended so whose first attempt was accepted.
+fn is_first_accepted(verdict: Verdict) -> bool
+    ensures { result ≡ true → verdict ≡ Accepted 0 }
+{
+    match verdict {
+        Verdict::Accepted { attempt } => attempt == 0,
+        _ => false,
+    }
+}
+
+/// Whether these are the trials of a task whose one attempt was accepted.
+fn is_one_accepted(made: &[Trial]) -> bool
+    ensures { result ≡ true → made.now ≡ trials.Accepted ∷ [] }
+{
+    match made {
+        [trial] => is_accepted(*trial),
+        _ => false,
+    }
+}
+
+/// Whether an attempt was accepted as it was made.
+fn is_accepted(trial: Trial) -> bool
+    ensures { result ≡ true → trial ≡ trials.Accepted }
+{
+    matches!(trial, Trial::Accepted)
+}
+
+/// Appends how a node ended, and the lines of its attempts, piece by piece.
+#[tactic(auto, using(std::proofs::Common::append_assoc))]
+fn print_each(
+    alloc: Global,
+    plan: &Plan,
+    verdict: Verdict,
+    trials: &[Trial],
+    into: &mut Bytes,
+) -> Result<(), OutOfMemory>
+    ensures { OnOk result (into.new ≡ into.old ++ end_lines plan.now verdict trials.now) }
+{
+    print_ending(alloc, plan, verdict, into)?;
     into.append(b"\n")?;
-    print_attempts(alloc, trials_at(told.attempts(), node), into)?;
+    print_attempts(alloc, trials, into)?;
     Ok(())
 }
 

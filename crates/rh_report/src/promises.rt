@@ -129,6 +129,10 @@ fn print_put(
         into.append(b" void")?;
         return Ok(());
     };
+    if attempt == 0 && !temp {
+        into.append(b" attempt 0:")?;
+        return print_words(alloc, words_or_none(words), into);
+    }
     print_labelled(alloc, b" attempt ", u64::from(attempt), into)?;
     print_shown(alloc, temp, words_or_none(words), into)?;
     Ok(())

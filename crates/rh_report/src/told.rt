@@ -5,47 +5,18 @@ ghost use Rattle.rh_plan.specs.declared.outcome.Verdict.TheVariants.{Failed};
 ghost use Rattle.rh_journal.specs.Events.{events};
 ghost use Rattle.rh_report.specs.Gathering.{HasGathered, HasTold};
 
+use crate::trials::Trials;
 use rh_journal::{Entry, Event};
 use rh_plan::{Plan, Trial, Verdict};
 use rh_words::OutOfMemory;
 use std::alloc::Global;
 use std::marker::Model;
 
-/// How the attempts of a node ended, attempt 0 first.
-#[derive(Drop)]
-pub(crate) struct Attempts {
-    trials: Vec<Trial>,
-}
-
-impl Model for Attempts {
-    ghost use Rattle.std.specs.Prelude.{List};
-    ghost use Rattle.rh_plan.specs.declared.outcome.Trial.{Trial};
-
-    ghost Value = { List Trial };
-
-    ghost view = { λ a. a.trials.items };
-}
-
-impl Attempts {
-    pub(crate) fn as_slice(&self) -> &[Trial]
-        ensures { result.now ≡ self.now }
-    {
-        self.trials.as_slice()
-    }
-
-    fn push(&mut self, trial: Trial) -> Result<(), OutOfMemory>
-        ensures { OnOk result (self.new ≡ self.old ++ trial ∷ []) }
-    {
-        self.trials.push(trial)?;
-        Ok(())
-    }
-}
-
 /// By the number of a node how it and its attempts ended, and by the number of a promise the attempt of which its put is.
 #[derive(Drop)]
 pub(crate) struct Told {
     verdicts: Vec<Verdict>,
-    attempts: Vec<Attempts>,
+    attempts: Vec<Trials>,
     puts: Vec<Option<u32>>,
 }
 
@@ -77,7 +48,7 @@ impl Told {
     }
 
     /// How the attempts of each node ended.
-    pub(crate) fn attempts(&self) -> &[Attempts]
+    pub(crate) fn attempts(&self) -> &[Trials]
         ensures { result.now ≡ self.now.trials }
     {
         self.attempts.as_slice()
@@ -129,7 +100,7 @@ fn set_verdict(verdicts: &mut Vec<Verdict>, node: u32, verdict: Verdict)
     }
 }
 
-fn push_trial(attempts: &mut Vec<Attempts>, node: u32, trial: Trial) -> Result<(), OutOfMemory>
+fn push_trial(attempts: &mut Vec<Trials>, node: u32, trial: Trial) -> Result<(), OutOfMemory>
     ensures { OnOk result (attempts.new.items ≡ slice_set attempts.old.items node (slice_index_or attempts.old.items node [] ++ trial ∷ [])) }
 {
     let at = node as usize;
@@ -158,14 +129,12 @@ fn all_failed(alloc: Global, count: usize) -> Result<Vec<Verdict>, OutOfMemory>
     Ok(verdicts)
 }
 
-fn no_attempts(alloc: Global, count: usize) -> Result<Vec<Attempts>, OutOfMemory>
+fn no_attempts(alloc: Global, count: usize) -> Result<Vec<Trials>, OutOfMemory>
     ensures { IfOk result (λ a. a.items ≡ replicate count []) }
 {
     let mut attempts = Vec::with_capacity(alloc, count)?;
     for _ in 0..count {
-        attempts.push(Attempts {
-            trials: Vec::new(alloc),
-        })?;
+        attempts.push(Trials::new(alloc))?;
     }
     Ok(attempts)
 }

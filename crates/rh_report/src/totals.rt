@@ -8,7 +8,8 @@ ghost use Rattle.rh_report.specs.Totals.{endings_text, is_put_at, is_task_at, ma
 use crate::ends::{put_at, trials_at};
 use crate::naming::print_labelled;
 use crate::promises::is_declared;
-use crate::told::{Attempts, Told};
+use crate::told::Told;
+use crate::trials::Trials;
 use rh_injector::{Faults, Strike};
 use rh_plan::{Plan, Verdict};
 use rh_rules::Kind;
@@ -150,14 +151,14 @@ fn is_put(plan: &Plan, told: &Told, promise: u32) -> bool
 }
 
 /// Of how many of the faults the attempt was made.
-fn made_count(strikes: &[Strike], attempts: &[Attempts]) -> u64
+fn made_count(strikes: &[Strike], attempts: &[Trials]) -> u64
     ensures { result ≡ count_by (made_by attempts.now) strikes.now }
 {
     strikes.iter().filter(|s| was_made(attempts, s)).count() as u64
 }
 
 /// Whether the attempt of a fault was made.
-fn was_made(attempts: &[Attempts], strike: &Strike) -> bool
+fn was_made(attempts: &[Trials], strike: &Strike) -> bool
     ensures { result ≡ made_by attempts.now strike.now }
 {
     (strike.attempt as usize) < trials_at(attempts, strike.node).len()

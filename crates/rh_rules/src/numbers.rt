@@ -3,13 +3,14 @@
 ghost use Rattle.std.specs.Prelude.{◌≡◌, ◌++◌, ◌∷◌, [], OnOk, OnErr};
 
 use rh_words::OutOfMemory;
+use smallvec::SmallVec;
 use std::alloc::Global;
 use std::marker::Model;
 
-/// A list of numbers.
+/// A list of numbers. Most lists are short, and the first four numbers take no memory of their own.
 #[derive(Drop)]
 pub struct Numbers {
-    items: Vec<u32>,
+    items: SmallVec<u32, 4>,
 }
 
 impl Model for Numbers {
@@ -26,7 +27,7 @@ impl Numbers {
         ensures { result ≡ [] }
     {
         Numbers {
-            items: Vec::new(alloc),
+            items: SmallVec::new(alloc),
         }
     }
 

@@ -1,15 +1,17 @@
 -- The checks of a task as a plan has them, without the kept specs of handed-in checks, over the checks that are handed in.
-use Rattle.std.specs.Prelude.{ℕ, ◌≡◌, List, Bool, not, Option, Some}
+use Rattle.std.specs.Prelude.{ℕ, ◌≡◌, List, Bool, not, Option, None, Some, Result, Ok, Err}
 use Rattle.std.specs.List.{position}
 use Rattle.rh_sparse.specs.Matrix.{MatrixData}
 use Rattle.rh_check.specs.declared.spec.UserSpec.{UserSpec}
 use Rattle.rh_check.specs.Checks.{spec_passes}
 use Rattle.rh_check.specs.Users.{user_named}
 use Rattle.rh_check.specs.Fitting.{FitsInputs}
+use Rattle.rh_injector.specs.declared.faults.Strike.{Strike}
 use Rattle.rh_rules.specs.declared.checks.PlannedCheck.{PlannedCheck}
 use Rattle.rh_plan.specs.Plans.{PlanData, OfNode}
 use Rattle.rh_plan.specs.Buffers.{BufferData, words_put}
 use Rattle.rh_plan.specs.Checking.{passes_where_put, first_failing}
+use Rattle.rh_attempt.specs.Attempting.{IsAttemptAt}
 
 -- The check can be made of this buffer. The arguments are the matrices, what the handed-in checks ask, the
 -- awaited words and the buffer.
@@ -27,3 +29,8 @@ first_planned matrices users inputs buffer checks = position (λ c. not (planned
 -- the first check of the task that the buffer fails
 abbrev pub IsFirstFailingAt : PlanData → ℕ → List (List ℕ) → BufferData → Option ℕ → Type 0
 IsFirstFailingAt plan v inputs buffer which = OfNode plan v (λ node. which ≡ first_failing plan inputs node.checks buffer)
+
+-- attempt k of the task, where it passes all checks, or the number of the first that it fails
+abbrev pub IsTriedAt : PlanData → List Strike → ℕ → List (List ℕ) → ℕ → Result BufferData ℕ → Type 0
+IsTriedAt plan faults v inputs k (Ok b) = IsAttemptAt plan faults v inputs k b × IsFirstFailingAt plan v inputs b None
+IsTriedAt plan faults v inputs k (Err which) = (b : BufferData) × IsAttemptAt plan faults v inputs k b × IsFirstFailingAt plan v inputs b (Some which)

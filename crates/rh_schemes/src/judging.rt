@@ -8,7 +8,7 @@ ghost use Rattle.rh_plan.specs.Judging.{node_result, are_same, replicated};
 ghost use Rattle.rh_rules.specs.declared.node.Scheme.TheVariants.{Plain, Replicate, Replay, Abft};
 ghost use Rattle.rh_plan.specs.declared.outcome.Trial.TheVariants as trial;
 ghost use Rattle.rh_plan.specs.declared.outcome.Verdict.TheVariants.{Accepted, Corrected, Failed};
-ghost use Rattle.rh_schemes.specs.Checking.{IsFirstFailingAt};
+ghost use Rattle.rh_schemes.specs.Checking.{IsFirstFailingAt, IsTriedAt};
 ghost use Rattle.rh_schemes.specs.Judges.{JudgesAs, HasScheme, IsReplayed, result_data};
 ghost use Rattle.rh_plan.specs.Buffers.{PutsFit};
 ghost use Rattle.rh_schemes.specs.Correcting.{placed, CorrectsAs, IsCheckedAgain, IsRestoredAt};
@@ -165,10 +165,9 @@ fn replay_up_to<I: Inputs, C: Checks, G: Gate>(
 {
     let mut trials = Trials::new(alloc);
     for k in 0..limit {
-        let buffer = gated(alloc, worker, plan, node, k, inputs, faults, gate)?;
-        match failing(plan, node, inputs, checks, &buffer) {
-            None => return accepted_after(trials, k, buffer),
-            Some(which) => trials.push(Trial::Refused { which })?,
+        match tried(alloc, worker, plan, node, k, inputs, faults, checks, gate)? {
+            Ok(buffer) => return accepted_after(trials, k, buffer),
+            Err(which) => trials.push(Trial::Refused { which })?,
         }
     }
     Ok(NodeResult {
@@ -176,6 +175,29 @@ fn replay_up_to<I: Inputs, C: Checks, G: Gate>(
         trials,
         accepted: None,
     })
+}
+
+/// An attempt that passes all checks, or the number of the first that it fails.
+fn tried<I: Inputs, C: Checks, G: Gate>(
+    alloc: Global,
+    worker: u32,
+    plan: &Plan,
+    node: u32,
+    k: u32,
+    inputs: &I,
+    faults: &Faults,
+    checks: &C,
+    gate: &G,
+) -> Result<Result<Buffer, u32>, OutOfMemory>
+    requires task { IsTaskOn plan.now node (I.lists inputs.now) }
+    requires checks { AreChecksOf plan.now (C.specs checks.now) }
+    ensures { IfOk result (λ t. IsTriedAt plan.now faults.now node (I.lists inputs.now) k t) }
+{
+    let buffer = gated(alloc, worker, plan, node, k, inputs, faults, gate)?;
+    match failing(plan, node, inputs, checks, &buffer) {
+        None => Ok(Ok(buffer)),
+        Some(which) => Ok(Err(which)),
+    }
 }
 
 /// The attempt is accepted after those that were refused.

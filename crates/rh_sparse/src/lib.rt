@@ -9,8 +9,6 @@ mod correction;
 mod laws;
 mod matrix;
 mod products;
-#[cfg(test)]
-mod tests;
 
 pub use checksums::Checksums;
 pub use correction::{Correction, correct};

@@ -8,8 +8,6 @@ mod fluxes;
 mod grid;
 mod lanes;
 mod line;
-#[cfg(test)]
-mod tests;
 
 pub use conservation::{conserves1, conserves2, step1_conserves, step2_conserves};
 pub use fluxes::flux;

@@ -11,6 +11,7 @@ pub mod SayableLists
 pub mod LineAnswers
 pub mod BodiesBelow
 pub mod CountsOfLines
+pub mod AddedStatements
 pub mod NestingOfBlocks
 pub mod OpenBlocksClose
 pub mod ProgramLines

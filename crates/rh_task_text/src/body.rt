@@ -1,23 +1,25 @@
 //! The items of a program text that is read, and what is open below them.
 
-ghost use Rattle.std.specs.Prelude.{◌≡◌, ◌↔◌, ◌++◌, ◌∷◌, ◌<◌, ◌≤◌, ◌-◌, ◌^◌, [], IsTrue, OnOk, OnErr, IfOk};
+ghost use Rattle.std.specs.Prelude.{◌≡◌, ◌↔◌, ◌<◌, ◌≤◌, ◌-◌, ◌^◌, ℕ, List, [], Some, None, IsTrue, OnOk, OnErr, IfOk};
+ghost use Rattle.rh_words.specs.Refusals.{OnRefused};
+ghost use Rattle.rh_task_text.specs.Forms.{form};
 ghost use Rattle.rh_task_text.specs.FormRows.{IsHead};
-ghost use Rattle.rh_task_text.specs.Statements.{kind_of};
-ghost use Rattle.rh_task_text.specs.Blocks.{open_blocks, innermost, rows_here, is_let, is_check, is_in_task, is_row_form, count_line};
-ghost use Rattle.rh_task_text.specs.LineReasons.{statement_reason};
-ghost use Rattle.rh_task_text.specs.Program.{IsLawful, IsLawfulText, version_text, upward};
-ghost use Rattle.rh_task_text.specs.ReaderStates.{FollowsLine, an_item};
+ghost use Rattle.rh_task_text.specs.Statements.{kind_of, FitForm, States};
+ghost use Rattle.rh_task_text.specs.LineReadings.{SaysForm};
+ghost use Rattle.rh_task_text.specs.Blocks.{open_blocks, innermost, rows_here, is_let, is_check, is_row_form, change_by};
+ghost use Rattle.rh_task_text.specs.Program.{IsLawfulText, version_text, upward};
+ghost use Rattle.rh_task_text.specs.ReaderStates.{FollowsLine, AddsStatement, IsOverLimits, IsReasonBelow};
 
 use crate::blocks::{Blocks, change_by, ends_nothing};
 use crate::form::{Block, Change, FormKind, Standing};
 use crate::limits::{has_room, own_limits};
 use crate::line::Head;
 use crate::statement::{Item, Statement};
+use crate::statements::put_statement_of;
 use crate::text::Text;
-use rh_words::{Keyword, OutOfMemory, Reason};
+use rh_words::{Fault, Keyword, OutOfMemory, Reason, Value};
 use std::alloc::Global;
 use std::marker::Model;
-use std::mem;
 
 /// The items of the lines so far, and what is open below them.
 #[derive(Drop)]
@@ -83,49 +85,31 @@ impl Body {
         Text::of(self.items)
     }
 
-    /// The first of the reasons 8 and 9 that holds of the statement, which has this form, below the items.
-    pub fn statement_reason(&self, head: Head, statement: &Statement) -> Option<Reason>
-        requires head { IsHead head }
-        requires form { kind_of statement.now ≡ head.kind }
-        ensures { result ≡ statement_reason (upward self.now) statement.now }
-    {
-        let here = self.below.blocks.innermost();
-        if ends_nothing(here, head.kind) {
-            return Some(Reason::EndExtra);
-        }
-        if has_room(
-            self.below.blocks.depth(),
-            self.below.lets,
-            self.below.checks,
-            head.first,
-        ) && own_limits(here, statement)
-        {
-            None
-        } else {
-            Some(Reason::Limit)
-        }
-    }
-
-    /// Puts the statement of this form and line below the others. What is left in its place is `end`.
-    pub fn push(
+    /// Puts the statement of these values below the others, which words of this form say and this line has. The reason is
+    /// the first of 8 and 9 that holds of it. It is made where it stays, since a statement is large.
+    pub fn add(
         &mut self,
+        alloc: Global,
         head: Head,
         line: u32,
-        statement: &mut Statement,
-    ) -> Result<(), OutOfMemory>
+        values: &[Value],
+    ) -> Result<(), Fault<Reason>>
         requires head { IsHead head }
-        requires form { kind_of statement.old ≡ head.kind }
-        requires lawful { IsLawful (upward self.old) statement.old }
-        ensures ok { OnOk result (self.new ≡ self.old ++ an_item line statement.old ∷ []) }
+        requires says { (words : List (List ℕ)) × SaysForm (innermost (open_blocks (upward self.old))) (rows_here (upward self.old)) words head.kind values.now }
+        ensures ok { OnOk result (AddsStatement self.old head.kind values.now line self.new) }
+        ensures refused { OnRefused result (λ reason. IsOverLimits self.old head.kind values.now reason) }
         ensures err { OnErr result (self.new ≡ self.old) }
     {
-        let change = change_by(statement);
+        let at = self.items.len();
         self.items.push(Item {
             line,
-            statement: mem::replace(statement, Statement::End),
+            statement: Statement::End,
         })?;
-        if let Err(fault) = self.below.follow(head, change) {
-            let _last = self.items.pop();
+        if let Err(fault) = self
+            .below
+            .add(alloc, head, values, &mut self.items[at].statement)
+        {
+            self.items.truncate(at);
             return Err(fault);
         }
         Ok(())
@@ -142,6 +126,51 @@ struct Below {
 }
 
 impl Below {
+    /// Makes the statement of these values in this place, and counts its line where it keeps its limits.
+    fn add(
+        &mut self,
+        alloc: Global,
+        head: Head,
+        values: &[Value],
+        place: &mut Statement,
+    ) -> Result<(), Fault<Reason>>
+        requires head { IsHead head }
+        requires values { FitForm (form head.kind) values.now }
+        requires rows { self.old.rows < 2 ^ 64 - 1 }
+        requires lines { self.old.lets ≤ 32 × self.old.checks ≤ 32 }
+        ensures states { OnOk result (States head.kind values.now place.new) }
+        ensures within { OnOk result (IsReasonBelow self.old.blocks self.old.rows self.old.lets self.old.checks place.new None) }
+        ensures follows { OnOk result (FollowsLine head (change_by place.new) self.old.blocks self.old.rows self.old.lets self.old.checks self.new.blocks self.new.rows self.new.lets self.new.checks) }
+        ensures refused { OnRefused result (λ reason. States head.kind values.now place.new × IsReasonBelow self.old.blocks self.old.rows self.old.lets self.old.checks place.new (Some reason)) }
+        ensures err { OnErr result (self.new ≡ self.old) }
+    {
+        put_statement_of(alloc, head.kind, values, place)?;
+        if let Some(reason) = self.statement_reason(head, place) {
+            return Err(Fault::Refused(reason));
+        }
+        self.follow(head, change_by(place))?;
+        Ok(())
+    }
+
+    /// The first of the reasons 8 and 9 that holds of the statement, which has this form, below the items.
+    fn statement_reason(&self, head: Head, statement: &Statement) -> Option<Reason>
+        requires head { IsHead head }
+        requires form { kind_of statement.now ≡ head.kind }
+        ensures { IsReasonBelow self.now.blocks self.now.rows self.now.lets self.now.checks statement.now result }
+    {
+        let here = self.blocks.innermost();
+        if ends_nothing(here, head.kind) {
+            return Some(Reason::EndExtra);
+        }
+        if has_room(self.blocks.depth(), self.lets, self.checks, head.first)
+            && own_limits(here, statement)
+        {
+            None
+        } else {
+            Some(Reason::Limit)
+        }
+    }
+
     /// Counts a line of this form, which changes the blocks so.
     fn follow(&mut self, head: Head, change: Change) -> Result<(), OutOfMemory>
         requires rows { self.old.rows < 2 ^ 64 - 1 }

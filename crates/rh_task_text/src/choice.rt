@@ -10,10 +10,9 @@ ghost use Rattle.rh_task_text.specs.LineReasons.{kind_chosen};
 
 use crate::form::FormKind;
 use crate::table::{form_of, kinds};
-use rh_words::{Keyword, LineWords, agrees, keyword_text};
+use rh_words::{Keyword, LineWords, agrees, says_keyword};
 
 /// The form of the words of the line: the first that they agree with.
-#[inline(never)]
 pub fn kind_chosen(line: &[u8]) -> Option<FormKind>
     ensures { result ≡ kind_chosen (words_of line.now) }
 {
@@ -181,6 +180,7 @@ fn kernel_form(kernel: &[u8]) -> Option<FormKind>
 }
 
 /// The first form of the table that the words of the line agree with.
+#[inline(never)]
 #[tactic(auto, unfolding(crate::specs::LineReasons::kind_chosen))]
 fn first_form(line: &[u8]) -> Option<FormKind>
     ensures { result ≡ kind_chosen (words_of line.now) }
@@ -202,5 +202,5 @@ fn agrees_with(kind: FormKind, line: &[u8]) -> bool
 fn is_keyword(word: &[u8], keyword: Keyword) -> bool
     ensures { IsTrue result ↔ (word.now ≡ keyword_text keyword) }
 {
-    word == keyword_text(keyword)
+    says_keyword(word, keyword)
 }

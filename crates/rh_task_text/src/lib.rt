@@ -17,8 +17,6 @@ mod reader;
 mod statement;
 mod statements;
 mod table;
-#[cfg(test)]
-mod tests;
 mod text;
 mod values;
 

@@ -9,19 +9,16 @@ ghost use Rattle.rh_words.specs.Refusals.{OnRefused};
 
 use crate::body::Body;
 use crate::line::read_words;
-use crate::statement::Statement;
-use crate::statements::put_statement_of;
 use crate::text::Text;
 use rh_words::{Fault, Line, LineValues, OutOfMemory, Reason, says_nothing};
 use std::alloc::Global;
 use std::marker::Model;
 
-/// The items of the lines so far, and memory that is used again for each line: what its words say, and its statement.
+/// The items of the lines so far, and memory that is used again for what the words of each line say.
 #[derive(Drop)]
 pub struct Reader {
     body: Body,
     values: LineValues,
-    draft: Statement,
 }
 
 impl Model for Reader {
@@ -41,7 +38,6 @@ impl Reader {
         Ok(Reader {
             body: Body::with_capacity(alloc, lines)?,
             values: LineValues::new(alloc),
-            draft: Statement::End,
         })
     }
 
@@ -71,12 +67,7 @@ impl Reader {
     {
         let here = self.body.innermost();
         let head = read_words(&mut self.values, here, self.body.rows(), line)?;
-        put_statement_of(alloc, head.kind, self.values.as_slice(), &mut self.draft)?;
-        if let Some(reason) = self.body.statement_reason(head, &self.draft) {
-            return Err(Fault::Refused(reason));
-        }
-        self.body.push(head, number, &mut self.draft)?;
-        Ok(())
+        self.body.add(alloc, head, number, self.values.as_slice())
     }
 
     /// Whether no block is open below the items.

@@ -13,7 +13,6 @@ use rh_words::{OutOfMemory, Value};
 use std::alloc::Global;
 
 /// Makes the statement of these values in this place: a statement is large, and is written where it stays.
-#[inline(never)]
 pub fn put_statement_of(
     alloc: Global,
     kind: FormKind,
@@ -187,7 +186,6 @@ fn finish_statement(values: &[Value], place: &mut Statement)
     );
 }
 
-#[inline(never)]
 fn end_statement(values: &[Value], place: &mut Statement)
     requires { FitForm (form FormKind.EndForm) values.now }
     ensures { States FormKind.EndForm values.now place.new }

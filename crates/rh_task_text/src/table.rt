@@ -28,6 +28,7 @@ pub struct Form {
 }
 
 /// The row of the table.
+#[inline(always)]
 pub fn form_of(kind: FormKind) -> Form
     ensures { IsForm result (form kind) }
 {

@@ -1,6 +1,6 @@
 //! What a statement says, word by word.
 
-ghost use Rattle.std.specs.Prelude.{◌≡◌, ◌⊎◌, ◌++◌, ◌∷◌, [], IfOk, OnOk, List, ℕ, map};
+ghost use Rattle.std.specs.Prelude.{◌≡◌, ◌≢◌, ◌⊎◌, ◌++◌, ◌∷◌, [], IfOk, OnOk, List, ℕ, map};
 ghost use Rattle.rh_words.specs.declared.value.Value.{Value};
 ghost use Rattle.rh_words.specs.declared.value.Value.TheVariants.{AWord, AName, ANumber};
 ghost use Rattle.rh_words.specs.declared.keyword.Keyword.TheVariants.{RowWord, LetWord, LitWord, CheckWord, LinearWord};
@@ -21,39 +21,27 @@ use rh_words::{Keyword, Name, NameList, OutOfMemory, Value};
 use std::alloc::Global;
 
 /// What the statement says.
+#[tactic(auto, using(crate::proofs::TaskForms::tasks_repeat))]
 pub fn values_of(alloc: Global, statement: &Statement) -> Result<Vec<Value>, OutOfMemory>
     ensures { IfOk result (λ values. values.items ≡ said statement.now) }
 {
     match statement {
         Statement::Promise { name, len, temp } => promise_values(alloc, name, *len, *temp),
         Statement::Matrix { name, rows, cols } => matrix_values(alloc, name, *rows, *cols),
-        Statement::Row { columns, values } => row_values(
-            alloc,
-            columns.as_slice(),
-            values.as_slice(),
-        ),
-        Statement::Task {
-            name,
-            scheme,
-            awaits,
-        } => task_values(alloc, name, *scheme, awaits),
         Statement::Finish { name } => named_values(alloc, FinishWord, name),
-        Statement::Group { name, awaits } => group_values(alloc, name, awaits),
         Statement::End => listed(alloc, &[AWord(EndWord)]),
-        Statement::LetLit { x, words } => let_lit_values(alloc, x, words.as_slice()),
-        Statement::LetJoin { x, parts } => let_join_values(alloc, x, parts),
         Statement::Put {
             promise,
             local,
             when,
         } => put_values(alloc, promise, local, when),
         Statement::DropAwait { promise } => named_values(alloc, DropWord, promise),
-        Statement::CheckLinear {
-            promise,
-            base,
-            inputs,
-            factors,
-        } => check_linear_values(alloc, promise, *base, inputs, factors.as_slice()),
+        Statement::Row { .. }
+        | Statement::Task { .. }
+        | Statement::Group { .. }
+        | Statement::LetLit { .. }
+        | Statement::LetJoin { .. }
+        | Statement::CheckLinear { .. } => list_values(alloc, statement),
         Statement::LetGen { .. }
         | Statement::LetAdd { .. }
         | Statement::LetSub { .. }
@@ -72,6 +60,35 @@ pub fn values_of(alloc: Global, statement: &Statement) -> Result<Vec<Value>, Out
         | Statement::CheckConserve2 { .. }
         | Statement::CheckProduct { .. }
         | Statement::CheckUser { .. } => check_values(alloc, statement),
+    }
+}
+
+/// What a statement says that has a list.
+fn list_values(alloc: Global, statement: &Statement) -> Result<Vec<Value>, OutOfMemory>
+    requires { (form (kind_of statement.now)).again ≢ [] }
+    ensures { IfOk result (λ values. values.items ≡ said statement.now) }
+{
+    match statement {
+        Statement::Row { columns, values } => row_values(
+            alloc,
+            columns.as_slice(),
+            values.as_slice(),
+        ),
+        Statement::Task {
+            name,
+            scheme,
+            awaits,
+        } => task_values(alloc, name, *scheme, awaits),
+        Statement::Group { name, awaits } => group_values(alloc, name, awaits),
+        Statement::LetLit { x, words } => let_lit_values(alloc, x, words.as_slice()),
+        Statement::LetJoin { x, parts } => let_join_values(alloc, x, parts),
+        Statement::CheckLinear {
+            promise,
+            base,
+            inputs,
+            factors,
+        } => check_linear_values(alloc, promise, *base, inputs, factors.as_slice()),
+        _ => unreachable!(),
     }
 }
 

@@ -12,7 +12,7 @@ use Rattle.rh_top.specs.declared.status.Status.{Status}
 use Rattle.rh_top.specs.declared.status.Status.TheVariants.{Done, TaskFailed, BadWords, ProgramRefused, FaultsRefused, StoreFailed, OutputFailed, OutOfMemory}
 use Rattle.rh_top.specs.Command.{Command, IsCommand}
 use Rattle.rh_top.specs.Answer.{Work, reported, writes, Gives, text_of}
-use Rattle.rh_top.specs.Promise.{Call, KeepsPromise, Tells, Finishes, OnCommand, status_number}
+use Rattle.rh_top.specs.Promise.{Call, Tells, Finishes, OnCommand, status_number}
 use Rattle.rh_top.specs.FaultFreeCalls.{ReportsFaultFree, ReportsOfCallsAreFaultFree}
 
 -- read texts are lawful, and so are the plans of lawful texts

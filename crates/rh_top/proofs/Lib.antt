@@ -6,5 +6,4 @@ pub mod OneAnswer
 pub mod SomeAnswer
 pub mod Statuses
 pub mod CallEnds
-pub mod OneThread
 pub mod FaultFreeCalls

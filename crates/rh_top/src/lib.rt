@@ -4,25 +4,9 @@
 #![tactic(auto)]
 
 mod command;
-#[cfg(test)]
-mod correction_tests;
-#[cfg(test)]
-mod examples;
-#[cfg(test)]
-mod fault_tests;
-#[cfg(test)]
-mod gate_tests;
-#[cfg(test)]
-mod handed_in_tests;
 mod laws;
-#[cfg(test)]
-mod library;
 mod printing;
-#[cfg(test)]
-mod scheme_tests;
 mod status;
-#[cfg(test)]
-mod tests;
 mod texts;
 mod tool;
 

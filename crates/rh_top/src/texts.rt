@@ -16,7 +16,7 @@ use rh_injector::{Faults, read_faults};
 use rh_outside::{ReadAnswer, Shelf};
 use rh_plain::run_plain;
 use rh_plan::{Plan, plan, resolve};
-use rh_report::{has_failed, print_report};
+use rh_report::print_outcome;
 use rh_schemes::Gate;
 use rh_task_text::read_program;
 use rh_words::limits::{MAX_FAULT_BYTES, MAX_PROGRAM_BYTES};
@@ -186,7 +186,6 @@ fn report_run<C: Checks, G: Gate>(
     let _known = plan.nodes();
     let outcome = run_plain(alloc, plan, faults, checks, gate)?;
     let mut out = Bytes::new(alloc);
-    print_report(alloc, plan, faults, &outcome, &mut out)?;
-    let failed = has_failed(alloc, plan, faults, &outcome)?;
+    let failed = print_outcome(alloc, plan, faults, &outcome, &mut out)?;
     Ok(Texts { out, failed })
 }

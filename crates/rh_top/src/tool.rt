@@ -1,7 +1,9 @@
 //! A call of the program, from its words to its status.
 
-ghost use Rattle.std.specs.Prelude.{◌≡◌, IfOk, codes, map};
+ghost use Rattle.std.specs.Prelude.{◌≡◌, ◌++◌, IfOk, OnOk, codes, map};
+ghost use Rattle.std.specs.Fmt.{decimal};
 ghost use Rattle.std.specs.String.{string_bytes};
+ghost use Rattle.rh_words.specs.Reasons.{number_of_reason, name_of_reason};
 ghost use Rattle.rh_top.specs.Answer.{refusal_line};
 ghost use Rattle.rh_top.specs.Promise.{KeepsPromise, Tells, Says, call_of, status_number};
 ghost use Rattle.rh_check.specs.Users.{handed_checks, ArePaired};
@@ -14,7 +16,7 @@ use crate::texts::{Stop, Texts, compose};
 use rh_check::Checks;
 use rh_outside::{Shelf, Sink, WriteAnswer, write_all};
 use rh_schemes::Gate;
-use rh_words::{Bytes, OutOfMemory, Refusal};
+use rh_words::{Bytes, OutOfMemory, Reason, Refusal};
 use std::alloc::Global;
 
 /// Does what the words say, and answers the exit status. The words are those after the program's name. Programs may name the
@@ -140,18 +142,39 @@ fn say<E: Sink>(err: &mut E, line: &[u8])
 }
 
 /// The line that tells of a refused text: `which` says what it is.
-#[tactic(auto, using(std::proofs::Common::append_assoc), unfolding(crate::specs::Answer::refusal_line))]
 fn print_refusal(alloc: Global, which: &str, refusal: Refusal) -> Result<Bytes, OutOfMemory>
     ensures { IfOk result (λ line. line ≡ refusal_line which.now (refusal_of refusal)) }
 {
     let mut line = Bytes::new(alloc);
+    put_refusal(alloc, which, refusal, &mut line)?;
+    Ok(line)
+}
+
+/// Puts the line that tells of a refused text behind a text.
+#[tactic(auto, using(std::proofs::Common::append_assoc), unfolding(crate::specs::Answer::refusal_line))]
+fn put_refusal(
+    alloc: Global,
+    which: &str,
+    refusal: Refusal,
+    line: &mut Bytes,
+) -> Result<(), OutOfMemory>
+    ensures { OnOk result (line.new ≡ line.old ++ refusal_line which.now (refusal_of refusal)) }
+{
     line.append(b"rh: ")?;
     line.append(which.as_bytes())?;
-    print_labelled(alloc, b" line ", u64::from(refusal.line), &mut line)?;
-    let number = u64::from(refusal.reason.number());
-    print_labelled(alloc, b" reason ", number, &mut line)?;
+    print_labelled(alloc, b" line ", u64::from(refusal.line), line)?;
+    put_reason(alloc, refusal.reason, line)?;
+    Ok(())
+}
+
+/// Puts the number and the name of a reason, and the end of the line, behind a text.
+#[tactic(auto, using(std::proofs::Common::append_assoc))]
+fn put_reason(alloc: Global, reason: Reason, line: &mut Bytes) -> Result<(), OutOfMemory>
+    ensures { OnOk result (line.new ≡ line.old ++ (codes " reason " ++ decimal (number_of_reason reason) ++ codes " " ++ name_of_reason reason ++ codes "\n")) }
+{
+    print_labelled(alloc, b" reason ", u64::from(reason.number()), line)?;
     line.append(b" ")?;
-    line.append(refusal.reason.name().as_bytes())?;
+    line.append(reason.name().as_bytes())?;
     line.append(b"\n")?;
-    Ok(line)
+    Ok(())
 }

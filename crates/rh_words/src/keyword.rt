@@ -1,6 +1,7 @@
 //! Words that have a meaning of their own.
 
-ghost use Rattle.std.specs.Prelude.{◌≡◌};
+ghost use Rattle.std.specs.Prelude.{◌≡◌, ◌≤◌, length};
+ghost use Rattle.std.specs.Str.{bytes_eq};
 ghost use Rattle.rh_words.specs.Keywords.{keyword_text};
 
 use Keyword::{
@@ -56,22 +57,64 @@ pub enum Keyword {
 }
 
 /// The bytes of a keyword.
+#[inline(always)]
 pub fn keyword_text(keyword: Keyword) -> &'static [u8]
     ensures { result.now ≡ keyword_text keyword }
 {
     match keyword {
-        PromiseWord => b"promise",
+        TempWord
+        | RowWord
+        | TaskWord
+        | AbftWord
+        | EndWord
+        | LetWord
+        | LitWord
+        | GenWord
+        | AddWord
+        | SubWord
+        | MulWord
+        | CutWord
+        | JoinWord
+        | SumWord
+        | PutWord
+        | WhenWord
+        | DropWord
+        | UserWord => short_text(keyword),
+        PromiseWord
+        | MatrixWord
+        | PlainWord
+        | ReplicateWord
+        | ReplayWord
+        | AwaitWord
+        | FinishWord
+        | GroupWord
+        | ScaleWord
+        | ShiftWord
+        | CountWord
+        | Stencil1Word
+        | Stencil2Word
+        | ProductWord
+        | CheckWord
+        | RangeWord
+        | TotalWord
+        | LinearWord
+        | ConserveWord
+        | Conserve2Word
+        | FaultWord => long_text(keyword),
+    }
+}
+
+/// The bytes of a keyword of three or four letters.
+#[inline(always)]
+fn short_text(keyword: Keyword) -> &'static [u8]
+    requires { length (keyword_text keyword) ≤ 4 }
+    ensures { result.now ≡ keyword_text keyword }
+{
+    match keyword {
         TempWord => b"temp",
-        MatrixWord => b"matrix",
         RowWord => b"row",
         TaskWord => b"task",
-        PlainWord => b"plain",
-        ReplicateWord => b"replicate",
         AbftWord => b"abft",
-        ReplayWord => b"replay",
-        AwaitWord => b"await",
-        FinishWord => b"finish",
-        GroupWord => b"group",
         EndWord => b"end",
         LetWord => b"let",
         LitWord => b"lit",
@@ -79,25 +122,68 @@ pub fn keyword_text(keyword: Keyword) -> &'static [u8]
         AddWord => b"add",
         SubWord => b"sub",
         MulWord => b"mul",
-        ScaleWord => b"scale",
-        ShiftWord => b"shift",
         CutWord => b"cut",
         JoinWord => b"join",
         SumWord => b"sum",
+        PutWord => b"put",
+        WhenWord => b"when",
+        DropWord => b"drop",
+        UserWord => b"user",
+        _ => unreachable!(),
+    }
+}
+
+/// The bytes of a keyword of five letters or more.
+#[inline(always)]
+fn long_text(keyword: Keyword) -> &'static [u8]
+    requires { 5 ≤ length (keyword_text keyword) }
+    ensures { result.now ≡ keyword_text keyword }
+{
+    match keyword {
+        PromiseWord => b"promise",
+        MatrixWord => b"matrix",
+        PlainWord => b"plain",
+        ReplicateWord => b"replicate",
+        ReplayWord => b"replay",
+        AwaitWord => b"await",
+        FinishWord => b"finish",
+        GroupWord => b"group",
+        ScaleWord => b"scale",
+        ShiftWord => b"shift",
         CountWord => b"count",
         Stencil1Word => b"stencil1",
         Stencil2Word => b"stencil2",
         ProductWord => b"product",
-        PutWord => b"put",
-        WhenWord => b"when",
-        DropWord => b"drop",
         CheckWord => b"check",
         RangeWord => b"range",
         TotalWord => b"total",
         LinearWord => b"linear",
         ConserveWord => b"conserve",
         Conserve2Word => b"conserve2",
-        UserWord => b"user",
         FaultWord => b"fault",
+        _ => unreachable!(),
     }
+}
+
+/// Whether the word is this keyword.
+pub fn says_keyword(word: &[u8], keyword: Keyword) -> bool
+    ensures { result ≡ bytes_eq word.now (keyword_text keyword) }
+{
+    is_same(word, keyword_text(keyword))
+}
+
+/// Whether two words are the same. Words are short and mostly differ at their first bytes, so that a loop that ends there
+/// takes fewer steps than a comparison of whole pieces.
+fn is_same(word: &[u8], other: &[u8]) -> bool
+    ensures { result ≡ bytes_eq word.now other.now }
+{
+    if word.len() != other.len() {
+        return false;
+    }
+    for at in 0..word.len() {
+        if word[at] != other[at] {
+            return false;
+        }
+    }
+    true
 }

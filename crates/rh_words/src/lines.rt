@@ -81,6 +81,7 @@ pub struct Line<'a> {
 }
 
 /// The end of the first line, and whether its bytes are printable.
+#[inline(always)]
 fn first_line(bytes: &[u8]) -> (usize, bool)
     requires { 0 < length bytes.now }
     ensures within { result.0 ≤ length bytes.now }
@@ -101,7 +102,9 @@ fn printable_end(bytes: &[u8]) -> usize
     ensures printable { is_printable (take result bytes.now) ≡ true }
     ensures found { result < length bytes.now → is_printable_byte (slice_index bytes.now result) ≡ false }
 {
-    for at in printable_pieces(bytes)..bytes.len() {
+    let wide = printable_pieces(bytes);
+    let half = past_piece(bytes, wide, 8);
+    for at in past_piece(bytes, half, 4)..bytes.len() {
         if !is_printable_byte(bytes[at]) {
             return at;
         }
@@ -125,6 +128,21 @@ fn printable_pieces(bytes: &[u8]) -> usize
         at += PIECE;
     }
     at
+}
+
+/// The end of the piece of this length at this place, where it is whole and printable, else its place.
+#[inline(always)]
+fn past_piece(bytes: &[u8], at: usize, piece: usize) -> usize
+    requires within { at ≤ length bytes.now }
+    requires printable { is_printable (take at bytes.now) ≡ true }
+    ensures within { result ≤ length bytes.now }
+    ensures printable { is_printable (take result bytes.now) ≡ true }
+{
+    if bytes.len() - at >= piece && is_printable(&bytes[at..at + piece]) {
+        at + piece
+    } else {
+        at
+    }
 }
 
 /// Whether all bytes are printable. No byte ends the loop, so that many are looked at in one step.
@@ -168,6 +186,7 @@ impl<'a> Lines<'a> {
     }
 
     /// The next line.
+    #[inline(always)]
     pub fn next(&mut self) -> Option<Line<'a>>
         ensures line { MatchOption result ((self.old ≡ []) × (self.new ≡ [])) (λ line. self.old ≡ line.bytes.now ∷ self.new) }
         ensures printable { IfSome result (λ line. line.is_printable ≡ is_printable line.bytes.now) }

@@ -8,7 +8,7 @@ ghost use Rattle.rh_words.specs.Places.{agrees, places_reason, passes_word, firs
 ghost use Rattle.rh_words.specs.PlaceWalks.{places, next_place, may_end, ToldBy, IsNothingTold};
 ghost use Rattle.rh_words.specs.Refusals.{OnRefused};
 
-use crate::keyword::keyword_text;
+use crate::keyword::{keyword_text, says_keyword};
 use crate::lines::LineWords;
 use crate::name::Name;
 use crate::number::read_number;
@@ -248,7 +248,7 @@ fn is_word_at(place: Place, word: &[u8]) -> bool
     ensures { result ≡ passes_word place word.now }
 {
     match place {
-        Place::WordPlace(keyword) => word == keyword_text(keyword),
+        Place::WordPlace(keyword) => says_keyword(word, keyword),
         _ => true,
     }
 }

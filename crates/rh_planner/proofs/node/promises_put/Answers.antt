@@ -1,6 +1,5 @@
-use Rattle.std.proofs.Common.{◌≡◌, ◌++◌, ℕ, List, sym, ap, ◌∙◌, append-nil, []}
-use Rattle.std.specs.Prelude.{option_to_list}
-use Rattle.rh_rules.specs.Bodies.{promises_put, put_at}
+use Rattle.std.proofs.Common.{ap, append-nil}
+use Rattle.rh_rules.specs.Bodies.{put_at}
 use Rattle.rh_planner.proofs.Stepping.{promises_put_more}
 use Rattle.rh_planner.proofs.node.promises_put.Goals as goal
 use Rattle.rh_planner.proofs.node.promises_put.Goals.{in-Some+in_ok-push, in_default}

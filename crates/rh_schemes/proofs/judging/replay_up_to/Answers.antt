@@ -1,26 +1,27 @@
-use Rattle.std.proofs.Common.{◌≡◌, ◌≤◌, ◌+◌, ℕ, List, Option, refl, arith, subst, sym}
+use Rattle.std.proofs.Common.{◌≡◌, ◌≤◌, ◌+◌, ℕ, List, Result, refl, arith, subst, sym}
+use Rattle.rh_plan.specs.Buffers.{BufferData}
 use Rattle.rh_plan.specs.declared.outcome.Trial.{Trial}
-use Rattle.rh_schemes.specs.Checking.{IsFirstFailingAt}
+use Rattle.rh_schemes.specs.Checking.{IsTriedAt}
 use Rattle.std.proofs.lemmas.Result.{IfOk-weaker}
 use Rattle.rh_schemes.proofs.Replaying.{AreRefusedAt, one_refused, one_accepted, none_accepted}
 use Rattle.rh_schemes.proofs.judging.replay_up_to.Goals as goal
 
-pub returns-in-None : goal.returns-in-None
-returns-in-None g c =
+pub returns-in-Ok : goal.returns-in-Ok
+returns-in-Ok g c =
     let plan = c.args.plan.now in
     let inputs = g.I.Inputs.lists c.args.inputs.now in
-    let passes = subst (λ (o : Option ℕ). IsFirstFailingAt plan c.args.node inputs c.in_ok-buffer.buffer o) c.in-None.is c.failing.ensures in
+    let tried = subst (λ (t : Result BufferData ℕ). IsTriedAt plan c.args.faults.now c.args.node inputs c.loop-k.k t) c.in-Ok.is c.in_ok-buffer.ensures in
     IfOk-weaker c.accepted_after.result _ _
-    (λ r told. one_accepted plan c.args.faults.now c.args.node inputs c.args.limit c.loop-k.k c.in_ok-buffer.buffer c.loop-k.trials r c.requires.scheme c.loop-k-test.true c.in_ok-buffer.ensures.made passes c.loop-k.invariant told)
+    (λ r told. one_accepted plan c.args.faults.now c.args.node inputs c.args.limit c.loop-k.k c.in-Ok.buffer c.loop-k.trials r c.requires.scheme c.loop-k-test.true tried.0 tried.1 c.loop-k.invariant told)
     c.accepted_after.ensures
 
 pub loop-k-preserved : goal.loop-k-preserved
 loop-k-preserved g c =
     let plan = c.args.plan.now in
     let inputs = g.I.Inputs.lists c.args.inputs.now in
-    let fails = subst (λ (o : Option ℕ). IsFirstFailingAt plan c.args.node inputs c.in_ok-buffer.buffer o) c.in-Some.is c.failing.ensures in
-    let done = one_refused plan c.args.faults.now c.args.node inputs c.args.limit c.loop-k.k c.in-Some.which c.in_ok-buffer.buffer c.loop-k.trials c.requires.scheme c.loop-k-test.true c.in_ok-buffer.ensures.made fails c.loop-k.invariant in
-    subst (λ (l : List Trial). AreRefusedAt plan c.args.faults.now c.args.node inputs (c.loop-k.k + 1) l) (sym c.in_ok-push-in-Some.ensures.ok) done
+    let (b, made, fails) = subst (λ (t : Result BufferData ℕ). IsTriedAt plan c.args.faults.now c.args.node inputs c.loop-k.k t) c.in-Err.is c.in_ok-buffer.ensures in
+    let done = one_refused plan c.args.faults.now c.args.node inputs c.args.limit c.loop-k.k c.in-Err.which b c.loop-k.trials c.requires.scheme c.loop-k-test.true made fails c.loop-k.invariant in
+    subst (λ (l : List Trial). AreRefusedAt plan c.args.faults.now c.args.node inputs (c.loop-k.k + 1) l) (sym c.in_ok-push-in-Err.ensures.ok) done
 
 pub returns : goal.returns
 returns g c =

@@ -1,4 +1,4 @@
-use Rattle.std.proofs.Common.{rules, refl, arith}
+use Rattle.std.proofs.Common.{refl, arith}
 use Rattle.std.specs.List.{IsDistinct}
 use Rattle.rh_planner.proofs.Declaring.{none_there, none_numbered}
 use Rattle.rh_planner.proofs.declarations.Declared.new.Goals as goal

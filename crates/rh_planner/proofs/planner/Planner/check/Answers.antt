@@ -1,6 +1,5 @@
-use Rattle.std.proofs.Common.{◌≡◌, ◌∙◌, ◌++◌, ◌∷◌, [], ℕ, List, Bool, true, false, cond, Option, Some, None, sym, ap, refl, subst}
+use Rattle.std.proofs.Common.{◌≡◌, ◌∙◌, ◌++◌, ◌∷◌, [], ℕ, List, Bool, true, cond, Option, Some, None, sym, ap, refl, subst}
 use Rattle.std.specs.Prelude.{unwrap_or}
-use Rattle.rh_words.specs.declared.reason.Reason.{Reason}
 use Rattle.rh_words.specs.declared.reason.Reason.TheVariants.{NoCheck}
 use Rattle.rh_rules.specs.Kept.{KeptCheck}
 use Rattle.rh_rules.specs.declared.shape.NamedShape.{NamedShape}

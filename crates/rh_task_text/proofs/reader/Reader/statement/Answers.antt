@@ -1,28 +1,24 @@
-use Rattle.std.proofs.Common.{◌∙◌, sym, subst, List}
+use Rattle.std.proofs.Common.{ℕ, List, Option, sym, subst}
 use Rattle.rh_words.specs.Text.{words_of}
+use Rattle.rh_words.specs.Refusals.{OnRefused}
 use Rattle.rh_words.specs.declared.value.Value.{Value}
-use Rattle.rh_task_text.specs.Statements.{States}
-use Rattle.rh_task_text.specs.LineReadings.{IsRead}
+use Rattle.rh_task_text.specs.declared.form.Block.{Block}
 use Rattle.rh_task_text.specs.declared.statement.Item.{Item}
+use Rattle.rh_task_text.specs.Blocks.{open_blocks, innermost}
+use Rattle.rh_task_text.specs.LineReadings.{SaysForm}
 use Rattle.rh_task_text.specs.Program.{IsReason, upward}
-use Rattle.rh_task_text.proofs.StatementReasons.{read_as}
-use Rattle.rh_task_text.proofs.LineAnswers.{read_lawful, limited_line}
+use Rattle.rh_task_text.specs.ReaderStates.{IsOverLimits}
+use Rattle.rh_task_text.proofs.AddedStatements.{over_line, refused_by}
 use Rattle.rh_task_text.proofs.reader.Reader.statement.Goals as goal
-use Rattle.rh_task_text.proofs.reader.Reader.statement.Goals.{In_ok-put_statement_of}
 
--- the statement that the line is read as
-read : (c : In_ok-put_statement_of) → IsRead c.innermost-here.result c.rows.result (words_of c.args.line.now) c.in_ok-head.head.kind c.put_statement_of.new.place
-read c =
-    let states = subst (λ (l : List Value). States c.in_ok-head.head.kind l c.put_statement_of.new.place) c.as_slice.ensures c.in_ok-put_statement_of.ensures in
-    read_as c.innermost-here.result c.rows.result (words_of c.args.line.now) c.in_ok-head.head.kind c.read_words.new.values c.put_statement_of.new.place c.in_ok-head.ensures.ok states
-
-pub push-requires-clause-lawful : goal.push-requires-clause-lawful
-push-requires-clause-lawful c =
-    let here = (goal.at.push-requires-clause-lawful c).In_ok-put_statement_of in
-    read_lawful (upward c.self.inside.body) c.innermost-here.result c.rows.result (words_of c.args.line.now) c.in_ok-head.head.kind c.put_statement_of.new.place c.innermost-here.ensures c.rows.ensures (read here) (sym c.statement_reason.ensures ∙ c.in_default.is)
-
-pub returns-in-Some-clause-refused : goal.returns-in-Some-clause-refused
-returns-in-Some-clause-refused c =
-    let here = (goal.at.returns-in-Some-clause-refused c).In_ok-put_statement_of in
-    subst (λ (items : List Item). IsReason (upward items) c.args.line.now c.in-Some.reason) c.self.view_is
-    (limited_line (upward c.self.inside.body) c.args.line.now c.innermost-here.result c.rows.result c.in_ok-head.head.kind c.put_statement_of.new.place c.in-Some.reason c.innermost-here.ensures c.rows.ensures c.requires.printable c.requires.says (read here) (sym c.statement_reason.ensures ∙ c.in-Some.is))
+pub returns-clause-refused : goal.returns-clause-refused
+returns-clause-refused c =
+    let items = c.self.inside.body in
+    let kind = c.in_ok-head.head.kind in
+    let values = c.as_slice.result.now in
+    let words = words_of c.args.line.now in
+    let read = subst (λ (l : List Value). SaysForm c.innermost-here.result c.rows.result words kind l) (sym c.as_slice.ensures) c.in_ok-head.ensures.ok in
+    let placed = subst (λ (b : Option Block). SaysForm b c.rows.result words kind values) c.innermost-here.ensures read in
+    let says = subst (λ (n : ℕ). SaysForm (innermost (open_blocks (upward items))) n words kind values) c.rows.ensures placed in
+    subst (λ (l : List Item). OnRefused c.add.result (IsReason (upward l) c.args.line.now)) c.self.view_is
+    (refused_by c.add.result (IsOverLimits items kind values) (IsReason (upward items) c.args.line.now) (λ reason over. over_line items c.args.line.now kind values reason c.requires.printable c.requires.says says over) c.add.ensures.refused)

@@ -1,6 +1,0 @@
-use Rattle.std.proofs.Common.{◌≡◌, take, map}
-use Rattle.rh_plan.specs.declared.made_put.MadePut.{MadePut}
-use Rattle.rh_plain.proofs.listing.promises_put.Given as goal
-
-abbrev pub invariant-loop-put : goal.invariant-loop-put
-invariant-loop-put l = l.promises ≡ map (λ (p : MadePut). p.promise) (take l.put-index l.put-items)

@@ -10,7 +10,7 @@ use rh_injector::Faults;
 use rh_journal::{Entry, Event, Outcome};
 use rh_plain::run_plain;
 use rh_plan::{Plan, Trial, Verdict, plan};
-use rh_report::print_report;
+use rh_report::{has_failed, print_report};
 use rh_schemes::OpenGate;
 use rh_task_text::read_program;
 use rh_words::{Bytes, Fault, OutOfMemory, Refusal};
@@ -197,6 +197,25 @@ fn report(alloc: Global, plan: &Plan) -> Result<Bytes, OutOfMemory>
     Ok(report)
 }
 
+/// Whether a task of its run failed.
+fn fails(alloc: Global, plan: &Plan) -> Result<bool, OutOfMemory>
+    requires { AreChecksOf plan.now [] }
+{
+    let faults = Faults::new(alloc);
+    let outcome = run_plain(alloc, plan, &faults, &NoChecks, &OpenGate)?;
+    has_failed(alloc, plan, &faults, &outcome)
+}
+
+/// Whether a task of a program failed, where it has a run.
+fn program_fails(alloc: Global, program: &[u8]) -> Option<bool>
+    requires { length program.now ≤ 4194304 }
+{
+    match load(alloc, program) {
+        Ok(plan) => fails(alloc, &plan).ok(),
+        Err(_) => None,
+    }
+}
+
 /// The outcome of a program, where it has one.
 fn outcome_of(alloc: Global, program: &[u8]) -> Option<Outcome>
     requires { length program.now ≤ 4194304 }
@@ -281,6 +300,22 @@ const CHAIN_WORDS: &[(u32, &[u64])] = &[(0, &[1, 2, 3]), (1, &[2, 4, 6]), (2, &[
 #[test]
 fn a_chain_has_this_journal_and_these_words(rt: HostRuntime) {
     assert!(rt; runs_so(rt.alloc(), CHAIN, CHAIN_EVENTS, CHAIN_WORDS));
+}
+
+/// The one task fails its check.
+const FAILING: &[u8] = b"rhc 1
+promise t 1 temp
+task a replay 1
+let v lit 9
+put t v
+check range t 0 8
+end
+";
+
+#[test]
+fn an_outcome_tells_whether_a_task_failed(rt: HostRuntime) {
+    assert!(rt; program_fails(rt.alloc(), CHAIN) == Some(false));
+    assert!(rt; program_fails(rt.alloc(), FAILING) == Some(true));
 }
 
 #[test]

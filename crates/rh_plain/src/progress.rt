@@ -1,6 +1,6 @@
 //! What is known between two nodes of a run.
 
-ghost use Rattle.std.specs.Prelude.{◌≡◌, ◌<◌, ◌+◌, ◌^◌, IfOk, OnOk, List, None, length, map};
+ghost use Rattle.std.specs.Prelude.{◌≡◌, ◌<◌, ◌+◌, ◌++◌, ◌∷◌, [], ◌^◌, IfOk, OnOk, List, None, length, map};
 ghost use Rattle.std.specs.List.{AllByRecursion};
 ghost use Rattle.rh_injector.specs.declared.faults.Strike.{Strike};
 ghost use Rattle.rh_journal.specs.declared.event.Event.TheVariants.{Release};
@@ -103,17 +103,17 @@ impl Progress {
             puts,
         } = ending;
         self.values.give_all(puts);
-        let (history, values) = (&mut self.history, &mut self.values);
+        let (verdicts, history, values) = (&mut self.verdicts, &mut self.history, &mut self.values);
         tell_ended(
             plan,
             node,
             verdict,
             trials.as_slice(),
             &lists,
+            verdicts,
             history,
             values,
         )?;
-        self.verdicts.push(verdict)?;
         Ok(())
     }
 
@@ -181,6 +181,7 @@ fn tell_ended(
     verdict: Verdict,
     trials: &[Trial],
     lists: &Lists,
+    verdicts: &mut Vec<Verdict>,
     history: &mut History,
     values: &mut Values,
 ) -> Result<(), OutOfMemory>
@@ -190,10 +191,12 @@ fn tell_ended(
     requires sized { length values.old ≡ length plan.now.promises }
     ensures drawn { OnOk result (Draws plan.now history.old history.new (listed_events node verdict trials.now lists.now.puts lists.now.voids lists.now.released)) }
     ensures kept { OnOk result (KeepsWords plan.now history.old values.old values.new (listed_events node verdict trials.now lists.now.puts lists.now.voids lists.now.released)) }
+    ensures verdicts { OnOk result (verdicts.new.items ≡ verdicts.old.items ++ verdict ∷ []) }
 {
     begin(plan, node, verdict, trials, lists, history)?;
     release_all(plan, lists.released(), node, history, values)?;
     history.draw(plan, Event::Decide { node, verdict })?;
+    verdicts.push(verdict)?;
     Ok(())
 }
 

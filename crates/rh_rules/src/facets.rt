@@ -1,6 +1,7 @@
 //! What the forms of statements make, use and need. Each call is one table over the forms.
 
-ghost use Rattle.std.specs.Prelude.{◌≡◌, ◌≤◌, ◌+◌, ◌++◌, ◌∷◌, [], length, sum, slice_index, IfOk, OnOk, true};
+ghost use Rattle.std.specs.Prelude.{◌≡◌, ◌≤◌, ◌+◌, ◌++◌, ◌∷◌, [], Some, length, option_to_list, sum, slice_index, IfOk, OnOk, true};
+ghost use Rattle.rh_rules.specs.declared.body.Step.TheVariants as steps;
 ghost use Rattle.rh_rules.specs.Facets.{facets, are_sides};
 ghost use Rattle.rh_rules.specs.Limits.{IsWithinLimits};
 
@@ -42,15 +43,15 @@ pub fn list_used(statement: &Statement, names: &mut Vec<Name>) -> Result<(), Out
     match statement {
         Statement::LetAdd { a, b, .. }
         | Statement::LetSub { a, b, .. }
-        | Statement::LetMul { a, b, .. } => list_two(a, b, names),
+        | Statement::LetMul { a, b, .. } => add_names(&[*a, *b], names),
         Statement::LetScale { a, .. }
         | Statement::LetShift { a, .. }
         | Statement::LetCut { a, .. }
         | Statement::LetSum { a, .. }
         | Statement::LetCount { a, .. }
-        | Statement::LetProduct { v: a, .. } => Ok(names.push(*a)?),
-        Statement::LetJoin { parts, .. } => Ok(names.extend_from_slice(parts.as_slice())?),
-        Statement::LetStencil1 { l, m, r, .. } => Ok(names.extend_from_slice(&[*l, *m, *r])?),
+        | Statement::LetProduct { v: a, .. } => add_names(&[*a], names),
+        Statement::LetJoin { parts, .. } => add_names(parts.as_slice(), names),
+        Statement::LetStencil1 { l, m, r, .. } => add_names(&[*l, *m, *r], names),
         Statement::LetStencil2 {
             north,
             south,
@@ -58,21 +59,26 @@ pub fn list_used(statement: &Statement, names: &mut Vec<Name>) -> Result<(), Out
             east,
             m,
             ..
-        } => { Ok(names.extend_from_slice(&[*north, *south, *west, *east, *m])?) }
-        Statement::Put { local, when, .. } => match when {
-            Some(when) => list_two(local, when, names),
-            None => Ok(names.push(*local)?),
-        },
+        } => add_names(&[*north, *south, *west, *east, *m], names),
+        Statement::Put { local, when, .. } => add_put(local, when, names),
         _ => Ok(()),
     }
 }
 
-fn list_two(a: &Name, b: &Name, names: &mut Vec<Name>) -> Result<(), OutOfMemory>
-    ensures { OnOk result (names.new.items ≡ names.old.items ++ a.now ∷ b.now ∷ []) }
+fn add_names(used: &[Name], names: &mut Vec<Name>) -> Result<(), OutOfMemory>
+    ensures { OnOk result (names.new.items ≡ names.old.items ++ used.now) }
 {
-    names.push(*a)?;
-    names.push(*b)?;
-    Ok(())
+    Ok(names.extend_from_slice(used)?)
+}
+
+/// Adds the local that is put, and the one that the put asks where it has a condition.
+fn add_put(local: &Name, when: &Option<Name>, names: &mut Vec<Name>) -> Result<(), OutOfMemory>
+    ensures { OnOk result (names.new.items ≡ names.old.items ++ local.now ∷ option_to_list when.now) }
+{
+    match when {
+        Some(when) => add_names(&[*local, *when], names),
+        None => add_names(&[*local], names),
+    }
 }
 
 /// The name of the matrix that the statement names.
@@ -174,9 +180,7 @@ pub fn step_of(
     ensures { IfOk result (λ step. step ≡ (facets statement.now).step matrix numbers.now) }
 {
     let step = match statement {
-        Statement::LetLit { words, .. } => Step::Lit {
-            words: words.copy(alloc)?,
-        },
+        Statement::LetLit { words, .. } => return literal_step(alloc, words),
         Statement::LetGen {
             n,
             start,
@@ -208,9 +212,7 @@ pub fn step_of(
             s: *s as u32,
         },
         Statement::LetCut { from, len, .. } => cut_step(numbers[0], *from, *len, lens[0]),
-        Statement::LetJoin { .. } => Step::Join {
-            parts: words_of(alloc, numbers)?,
-        },
+        Statement::LetJoin { .. } => return join_step(alloc, numbers),
         Statement::LetSum { .. } => Step::Sum { a: numbers[0] },
         Statement::LetCount { .. } => Step::Count { a: numbers[0] },
         Statement::LetStencil1 { k, s, .. } => stencil1_step(numbers, *k, *s as u32),
@@ -224,6 +226,24 @@ pub fn step_of(
         _ => return Ok(None),
     };
     Ok(Some(step))
+}
+
+/// The step of these words. They are copied.
+fn literal_step(alloc: Global, words: &Words) -> Result<Option<Step>, OutOfMemory>
+    ensures { IfOk result (λ step. step ≡ Some (steps.Lit words.now)) }
+{
+    Ok(Some(Step::Lit {
+        words: words.copy(alloc)?,
+    }))
+}
+
+/// The step that joins these locals.
+fn join_step(alloc: Global, numbers: &[u32]) -> Result<Option<Step>, OutOfMemory>
+    ensures { IfOk result (λ step. step ≡ Some (steps.Join numbers.now)) }
+{
+    Ok(Some(Step::Join {
+        parts: words_of(alloc, numbers)?,
+    }))
 }
 
 fn cut_step(a: u32, from: u64, len: u64, all: u32) -> Step

@@ -44,8 +44,7 @@ pub fn replicate<I: Inputs, C: Checks, G: Gate>(
     let first = gated(alloc, worker, plan, node, 0, inputs, faults, gate)?;
     let second = gated(alloc, worker, plan, node, 1, inputs, faults, gate)?;
     if first.same(&second) {
-        let trials = [Trial::Accepted, Trial::Agreed];
-        return accepted(alloc, 0, &trials, first);
+        return first_and_second(alloc, first);
     }
     with_third(
         alloc, worker, plan, node, inputs, faults, gate, first, second,
@@ -72,7 +71,7 @@ fn with_third<I: Inputs, G: Gate>(
     ensures { IfOk result (λ r. JudgesAs plan.now faults.now node (I.lists inputs.now) r) }
 {
     let third = gated(alloc, worker, plan, node, 2, inputs, faults, gate)?;
-    third_decides(alloc, first, second, third)
+    third_decides(alloc, first, second, &third)
 }
 
 /// The lower of two buffers that differ which the third equals is accepted.
@@ -80,21 +79,50 @@ fn third_decides(
     alloc: Global,
     first: Buffer,
     second: Buffer,
-    third: Buffer,
+    third: &Buffer,
 ) -> Result<NodeResult, OutOfMemory>
     requires { are_same first second ≡ false }
-    ensures { IfOk result (λ r. result_data r ≡ replicated 1 (first ∷ second ∷ third ∷ [])) }
+    ensures { IfOk result (λ r. result_data r ≡ replicated 1 (first ∷ second ∷ third.now ∷ [])) }
 {
-    if first.same(&third) {
-        let trials = [Trial::Accepted, Trial::Differed, Trial::Agreed];
-        accepted(alloc, 0, &trials, first)
-    } else if second.same(&third) {
-        let trials = [Trial::Differed, Trial::Accepted, Trial::Agreed];
-        accepted(alloc, 1, &trials, second)
+    if first.same(third) {
+        first_and_third(alloc, first)
+    } else if second.same(third) {
+        second_and_third(alloc, second)
     } else {
-        let trials = [Trial::Differed, Trial::Differed, Trial::Differed];
-        failed(alloc, &trials)
+        none_of_three(alloc)
     }
+}
+
+/// The first attempt is accepted, and the second agrees.
+fn first_and_second(alloc: Global, first: Buffer) -> Result<NodeResult, OutOfMemory>
+    ensures { IfOk result (λ r. result_data r ≡ node_result (Accepted 0) (trial.Accepted ∷ trial.Agreed ∷ []) (Some first)) }
+{
+    let trials = [Trial::Accepted, Trial::Agreed];
+    accepted(alloc, 0, &trials, first)
+}
+
+/// The first attempt is accepted, the second differs, and the third agrees.
+fn first_and_third(alloc: Global, first: Buffer) -> Result<NodeResult, OutOfMemory>
+    ensures { IfOk result (λ r. result_data r ≡ node_result (Accepted 0) (trial.Accepted ∷ trial.Differed ∷ trial.Agreed ∷ []) (Some first)) }
+{
+    let trials = [Trial::Accepted, Trial::Differed, Trial::Agreed];
+    accepted(alloc, 0, &trials, first)
+}
+
+/// The first attempt differs, the second is accepted, and the third agrees.
+fn second_and_third(alloc: Global, second: Buffer) -> Result<NodeResult, OutOfMemory>
+    ensures { IfOk result (λ r. result_data r ≡ node_result (Accepted 1) (trial.Differed ∷ trial.Accepted ∷ trial.Agreed ∷ []) (Some second)) }
+{
+    let trials = [Trial::Differed, Trial::Accepted, Trial::Agreed];
+    accepted(alloc, 1, &trials, second)
+}
+
+/// No two of three attempts agree.
+fn none_of_three(alloc: Global) -> Result<NodeResult, OutOfMemory>
+    ensures { IfOk result (λ r. result_data r ≡ node_result Failed (trial.Differed ∷ trial.Differed ∷ trial.Differed ∷ []) None) }
+{
+    let trials = [Trial::Differed, Trial::Differed, Trial::Differed];
+    failed(alloc, &trials)
 }
 
 /// An attempt, of which the gate is told.

@@ -2,20 +2,19 @@
 //! It hands its words, the real files, the two streams and two checks to `top`, and ends with the status that this answers.
 #![tactic(auto)]
 
-use rh_check::{NoChecks, StoredCheck, UserSpec, With, all_bytes, sums_to_zero};
-use rh_outside::{FsShelf, StdSink};
+use rh_check::{Checks, NoChecks, StoredCheck, UserSpec, With, all_bytes, sums_to_zero};
+use rh_outside::{FsShelf, Sink, StdSink};
 use rh_schemes::OpenGate;
 pub use rh_top::{top, want_memory};
 use rh_words::Name;
 use std::boxed::Box;
 use std::env::Env;
-use std::io::ErrorKind;
+use std::io::{ErrorKind, Print};
 use std::process::ExitCode;
+use std::rt::Files;
 use std::{env, io};
 
 fn main(rt: HostRuntime) -> ExitCode {
-    let mut files = FsShelf::new(&rt);
-    let mut out = StdSink::new(io::writer(&rt));
     let mut err = StdSink::new(rt.stderr());
     let words = match read_words(&rt) {
         Arguments::Read(words) => words,
@@ -37,16 +36,27 @@ fn main(rt: HostRuntime) -> ExitCode {
             rest: NoChecks,
         },
     };
-    let status = top(
+    ExitCode::from(answer(&rt, &words, &checks, &mut err))
+}
+
+/// Hands the words to `top` with the real files, the output and the checks, and answers its status.
+fn answer<R: Files + Print + AllocGlobal, C: Checks, E: Sink>(
+    rt: &R,
+    words: &[String],
+    checks: &C,
+    err: &mut E,
+) -> u8 {
+    let mut files = FsShelf::new(rt);
+    let mut out = StdSink::new(io::writer(rt));
+    top(
         rt.alloc(),
-        &words,
+        words,
         &mut files,
         &mut out,
-        &mut err,
-        &checks,
+        err,
+        checks,
         &OpenGate,
-    );
-    ExitCode::from(status)
+    )
 }
 
 fn byte_name() -> Name {

@@ -7,7 +7,7 @@ ghost use Rattle.rh_check.specs.Checks.{user_passes};
 use crate::check::{are_within, passes_at};
 use rh_check::{Checks, NoChecks, StoredCheck, UserSpec, With, all_bytes, sums_to_zero};
 use rh_words::Name;
-use std::alloc::Global;
+use std::alloc::{AllocError, Global};
 use std::boxed::Box;
 use std::test::Fail;
 
@@ -28,6 +28,55 @@ fn two(first: StoredCheck, second: StoredCheck) -> With<With<NoChecks>> {
             rest: NoChecks,
         },
     }
+}
+
+/// A check of this name that each word is a byte.
+#[tactic(auto, unfolding(rh_check::specs::Checks::user_passes))]
+fn byte_check(alloc: Global) -> Result<StoredCheck, AllocError> {
+    let test = Box::new(
+        alloc,
+        |words: &[u64]| -> bool
+            ensures { result ≡ user_passes (asks.Range 0 255) words.now }
+        { all_bytes(words) },
+    )?;
+    Ok(StoredCheck::new(named(b"byte"), UserSpec::Range { lo: 0, hi: 255 }, test))
+}
+
+/// A check that the words sum to 0.
+#[tactic(auto, unfolding(rh_check::specs::Checks::user_passes))]
+fn zero_sum_check(alloc: Global) -> Result<StoredCheck, AllocError> {
+    let test = Box::new(
+        alloc,
+        |words: &[u64]| -> bool
+            ensures { result ≡ user_passes (asks.Total 0) words.now }
+        { sums_to_zero(words) },
+    )?;
+    Ok(StoredCheck::new(named(b"zero_sum"), UserSpec::Total { sum: 0 }, test))
+}
+
+/// A check that each word is from `lo` to `hi`: its closure owns two numbers, and its written promise is what the spec says.
+#[tactic(auto, unfolding(rh_check::specs::Checks::user_passes))]
+fn range_check(alloc: Global, name: &[u8], lo: u64, hi: u64) -> Result<StoredCheck, AllocError> {
+    let test = Box::new(
+        alloc,
+        move |words: &[u64]| -> bool
+            ensures { result ≡ user_passes (asks.Range lo hi) words.now }
+        { are_within(lo, hi, words) },
+    )?;
+    Ok(StoredCheck::new(named(name), UserSpec::Range { lo, hi }, test))
+}
+
+/// Whether each word is a byte, and whether they sum to 0.
+fn bytes_and_sums(alloc: Global) -> Result<With<With<NoChecks>>, AllocError> {
+    Ok(two(byte_check(alloc)?, zero_sum_check(alloc)?))
+}
+
+/// Whether each word is from 1 to 2, and from 2 to 3, under one name.
+fn two_ranges(alloc: Global) -> Result<With<With<NoChecks>>, AllocError> {
+    Ok(two(
+        range_check(alloc, b"same", 1, 2)?,
+        range_check(alloc, b"same", 2, 3)?,
+    ))
 }
 
 /// Words, and whether the checks at the places 0 and 1 pass them.
@@ -67,12 +116,7 @@ const BYTES_AND_SUMS: &[Row<'static>] = &[
 
 #[test]
 fn two_stored_checks_are_asked(rt: HostRuntime) -> Result<(), Fail> {
-    let byte = Box::new(rt.alloc(), |words: &[u64]| all_bytes(words))?;
-    let zero_sum = Box::new(rt.alloc(), |words: &[u64]| sums_to_zero(words))?;
-    let checks = two(
-        StoredCheck::new(named(b"byte"), UserSpec::Range { lo: 0, hi: 255 }, byte),
-        StoredCheck::new(named(b"zero_sum"), UserSpec::Total { sum: 0 }, zero_sum),
-    );
+    let checks = bytes_and_sums(rt.alloc())?;
     assert!(rt; are_asked(rt.alloc(), &checks, [b"byte", b"zero_sum"], BYTES_AND_SUMS));
     Ok(())
 }
@@ -87,23 +131,13 @@ const SMALL: &[Row<'static>] = &[
     (&[50], true, false),
 ];
 
-/// A check of one's own: its closure owns a number, and its written promise is what the spec says.
 #[test]
-#[tactic(auto, unfolding(rh_check::specs::Checks::user_passes))]
 fn a_check_of_ones_own_is_asked(rt: HostRuntime) -> Result<(), Fail> {
-    let alloc = rt.alloc();
-    let limit = 120;
-    let small = Box::new(
-        alloc,
-        move |words: &[u64]| -> bool
-            ensures { result ≡ user_passes (asks.Range 7 limit) words.now }
-        { words.iter().all(|word| 7 <= *word && *word <= limit) },
-    )?;
     let checks = With {
-        first: StoredCheck::new(named(b"small"), UserSpec::Range { lo: 7, hi: limit }, small),
+        first: range_check(rt.alloc(), b"small", 7, 120)?,
         rest: NoChecks,
     };
-    assert!(rt; pass(alloc, &checks, SMALL));
+    assert!(rt; pass(rt.alloc(), &checks, SMALL));
     Ok(())
 }
 
@@ -117,18 +151,15 @@ fn ask_for_ranges<C: Checks>(checks: &C) -> bool {
 /// Words with whether they are from 1 to 2, and from 2 to 3.
 const RANGES: &[Row<'static>] = &[(&[1], true, false), (&[3], false, true)];
 
+/// Whether both are asked by place, each for its range.
+fn stand_side_by_side<C: Checks>(alloc: Global, checks: &C) -> bool {
+    are_asked(alloc, checks, [b"same", b"same"], RANGES) && ask_for_ranges(checks)
+}
+
 /// Two checks may have one name: each stands at its place, and is asked there.
 #[test]
-#[tactic(auto, unfolding(rh_check::specs::Checks::user_passes))]
 fn checks_of_one_name_stand_side_by_side(rt: HostRuntime) -> Result<(), Fail> {
-    let first = Box::new(rt.alloc(), |words: &[u64]| are_within(1, 2, words))?;
-    let second = Box::new(rt.alloc(), |words: &[u64]| are_within(2, 3, words))?;
-    let checks = two(
-        StoredCheck::new(named(b"same"), UserSpec::Range { lo: 1, hi: 2 }, first),
-        StoredCheck::new(named(b"same"), UserSpec::Range { lo: 2, hi: 3 }, second),
-    );
-    assert!(rt;
-        are_asked(rt.alloc(), &checks, [b"same", b"same"], RANGES) && ask_for_ranges(&checks)
-    );
+    let checks = two_ranges(rt.alloc())?;
+    assert!(rt; stand_side_by_side(rt.alloc(), &checks));
     Ok(())
 }

@@ -1,4 +1,4 @@
-use Rattle.std.proofs.Common.{arith, subst, ◌∙◌, sym, List, ℕ, ◌∷◌, []}
+use Rattle.std.proofs.Common.{arith, subst, ◌∙◌, sym, List, ℕ, ◌∷◌, [], rules}
 use Rattle.rh_words.specs.declared.reason.Reason.{Reason}
 use Rattle.rh_injector.specs.FaultTexts.{FirstBad}
 use Rattle.rh_injector.proofs.FaultAnswers.{out_of_false, refused_text, Reads-lawful}
@@ -36,3 +36,6 @@ ended c = subst (λ (ls : List (List ℕ)). IsBegun c.args.bytes.now c.loop-line
 pub into_text-requires : goal.into_text-requires
 into_text-requires c =
     Reads-lawful c.args.bytes.now _ (begun-end c.args.bytes.now c.loop-line.number c.loop-line.reader (ended (goal.at.into_text-requires c).In_default-next))
+
+pub loop-line-init : goal.loop-line-init
+loop-line-init = search rules

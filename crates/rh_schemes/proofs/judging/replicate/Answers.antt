@@ -8,7 +8,7 @@ pub returns-then-same : goal.returns-then-same
 returns-then-same g c =
     let a = c.in_ok-first.first in
     let b = c.in_ok-second.second in
-    IfOk-weaker c.accepted.result _ _
+    IfOk-weaker c.first_and_second.result _ _
     (λ r is. two_judge c.args.plan.now c.args.faults.now c.args.node (g.I.Inputs.lists c.args.inputs.now) a b r c.requires.scheme c.in_ok-first.ensures.made c.in_ok-second.ensures.made
     (λ third. is ∙ sym (two_agree a b third (sym c.same.ensures.value ∙ c.if-same.true))))
-    c.accepted.ensures
+    c.first_and_second.ensures

@@ -5,14 +5,14 @@ use Rattle.rh_schemes.proofs.judging.third_decides.Goals as goal
 
 pub returns-then-same : goal.returns-then-same
 returns-then-same c =
-    IfOk-weaker c.accepted.result _ _ (λ r is. is ∙ sym (third_with_first c.args.first c.args.second c.args.third c.requires (sym c.same.ensures.value ∙ c.if-same.true))) c.accepted.ensures
+    IfOk-weaker c.first_and_third.result _ _ (λ r is. is ∙ sym (third_with_first c.args.first c.args.second c.args.third.now c.requires (sym c.same.ensures.value ∙ c.if-same.true))) c.first_and_third.ensures
 
 pub returns-then-same-2 : goal.returns-then-same-2
 returns-then-same-2 c =
-    IfOk-weaker c.accepted-then-same-2.result _ _
-    (λ r is. is ∙ sym (third_with_second c.args.first c.args.second c.args.third c.requires (sym c.same.ensures.value ∙ c.if-same.false) (sym c.same-else-same.ensures.value ∙ c.if-same-2.true))) c.accepted-then-same-2.ensures
+    IfOk-weaker c.second_and_third.result _ _
+    (λ r is. is ∙ sym (third_with_second c.args.first c.args.second c.args.third.now c.requires (sym c.same.ensures.value ∙ c.if-same.false) (sym c.same-else-same.ensures.value ∙ c.if-same-2.true))) c.second_and_third.ensures
 
 pub returns : goal.returns
 returns c =
-    IfOk-weaker c.failed.result _ _
-    (λ r is. is ∙ sym (none_agree c.args.first c.args.second c.args.third c.requires (sym c.same.ensures.value ∙ c.if-same.false) (sym c.same-else-same.ensures.value ∙ c.if-same-2.false))) c.failed.ensures
+    IfOk-weaker c.none_of_three.result _ _
+    (λ r is. is ∙ sym (none_agree c.args.first c.args.second c.args.third.now c.requires (sym c.same.ensures.value ∙ c.if-same.false) (sym c.same-else-same.ensures.value ∙ c.if-same-2.false))) c.none_of_three.ensures

@@ -1,4 +1,4 @@
-use Rattle.std.proofs.Common.{refl, sym, ◌∙◌, arith}
+use Rattle.std.proofs.Common.{refl, sym, ◌∙◌, arith, rules}
 use Rattle.rh_plain.proofs.Histories.{pushes_release, pushes_last, known_index, count_fits, counted_last}
 use Rattle.rh_plain.proofs.history.History.release.Goals as goal
 
@@ -27,3 +27,6 @@ pub returns-clause-last : goal.returns-clause-last
 returns-clause-last c yes1 seen has =
     let (same, few) = known_index c.args.plan.now seen c.args.self.now c.self.inside.entries.items c.self.inside.gone.items c.args.promise c.index.result.now c.self.view_is has c.requires.known c.index.ensures in
     counted_last c.args.plan.now seen c.args.self.now c.self.inside.entries.items c.self.inside.gone.items c.index.result.now c.args.promise c.args.by c.self.view_is has same c.requires.known (c.if-gone-references.false ∙ c.references.ensures)
+
+pub returns-then-gone-references-clause-last : goal.returns-then-gone-references-clause-last
+returns-then-gone-references-clause-last = search rules

@@ -1,4 +1,4 @@
-use Rattle.std.proofs.Common.{◌≡◌, ℕ, List, length, take, drop, replicate, ◌-◌, true, arith, sym, ap, ◌∙◌, get_or}
+use Rattle.std.proofs.Common.{◌≡◌, ℕ, List, length, take, drop, replicate, ◌-◌, true, arith, sym, ap, ◌∙◌, get_or, rules}
 use Rattle.std.proofs.Math.Seq.{take-length}
 use Rattle.std.proofs.lemmas.List.{length-set}
 use Rattle.std.specs.List.{list_all}
@@ -30,3 +30,6 @@ invariant_of-result c =
       named = ap (λ (l : List ℕ). is_name l) copied ∙ is_name-from bytes begins (omega arith) all;
       blank = ap (λ (k : ℕ). drop k c.loop-at.whole) (sym end) ∙ c.loop-at.invariant.blank ∙ ap (λ (k : ℕ). replicate (32 - k) 0) end;
     }
+
+pub returns-then-not-begins_name : goal.returns-then-not-begins_name
+returns-then-not-begins_name = search rules

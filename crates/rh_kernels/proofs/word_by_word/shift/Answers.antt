@@ -1,0 +1,6 @@
+use Rattle.std.proofs.Common.{arith}
+use Rattle.std.proofs.lemmas.Grind.{common_steps}
+use Rattle.rh_kernels.proofs.word_by_word.shift.Goals as goal
+
+pub returns : goal.returns
+returns = grind (arith, common_steps)

@@ -14,7 +14,8 @@ use Rattle.rh_rules.specs.Bodies.{AreSoundSteps, IsSoundStep, IsSoundWhen, let_l
 use Rattle.rh_plan.specs.Plans.{PlanData, shapes_in}
 use Rattle.rh_rules.specs.Lawful.{promise_lens}
 use Rattle.rh_plan.specs.Faulted.{faulted}
-use Rattle.rh_plan.specs.Buffers.{copies_from, local_at, locals_after, locals_from}
+use Rattle.rh_check.specs.Checks.{words_at}
+use Rattle.rh_plan.specs.Buffers.{copies_from, locals_after, locals_from}
 use Rattle.rh_plan.proofs.Fitting.{lens_copies, lens_step}
 
 -- one more copy of an awaited list
@@ -26,12 +27,12 @@ copied strikes locals lists whole i words copy within at is all =
     ∙ ap (λ (c : List ℕ). locals ++ c ∷ copies_from strikes (i + 1) (drop (i + 1) lists)) is ∙ here
 
 -- one more part of a join
-pub joined_more : (locals : List (List ℕ)) (before after : List ℕ) (parts : List ℕ) (part : ℕ) → before ≡ join_value (map (local_at locals) parts) → after ≡ before ++ local_at locals part → after ≡ join_value (map (local_at locals) (parts ++ part ∷ []))
+pub joined_more : (locals : List (List ℕ)) (before after : List ℕ) (parts : List ℕ) (part : ℕ) → before ≡ join_value (map (words_at locals) parts) → after ≡ before ++ words_at locals part → after ≡ join_value (map (words_at locals) (parts ++ part ∷ []))
 joined_more locals before after parts part is is_after =
-    is_after ∙ ap (λ (l : List ℕ). l ++ local_at locals part) is
-    ∙ ap (λ (l : List ℕ). join_value (map (local_at locals) parts) ++ l) (sym (append-nil (local_at locals part)))
-    ∙ sym (concat-append (map (local_at locals) parts) (local_at locals part ∷ []))
-    ∙ ap (λ (l : List (List ℕ)). concat l) (sym (map-append (local_at locals) parts (part ∷ [])))
+    is_after ∙ ap (λ (l : List ℕ). l ++ words_at locals part) is
+    ∙ ap (λ (l : List ℕ). join_value (map (words_at locals) parts) ++ l) (sym (append-nil (words_at locals part)))
+    ∙ sym (concat-append (map (words_at locals) parts) (words_at locals part ∷ []))
+    ∙ ap (λ (l : List (List ℕ)). concat l) (sym (map-append (words_at locals) parts (part ∷ [])))
 
 -- what the loop over the steps keeps: the steps that are left make the locals whole
 pub record IsMaking (plan : PlanData) (strikes : List Strike) (locals : List (List ℕ)) (left : List Step) (whole : List (List ℕ)) : Type 0 where

@@ -8,7 +8,8 @@ use Rattle.rh_sparse.specs.Matrix.{MatrixData}
 use Rattle.rh_sparse.specs.Product.{product_value}
 use Rattle.rh_rules.specs.declared.shape.Shape.{Shape}
 use Rattle.rh_rules.specs.Bodies.{shapes_of}
-use Rattle.rh_plan.specs.Buffers.{local_at, product_if_held}
+use Rattle.rh_check.specs.Checks.{words_at}
+use Rattle.rh_plan.specs.Buffers.{product_if_held}
 
 pub matrix_there : (matrices held : List MatrixData) (matrix : ℕ) (P : Shape → Type 0) → held ≡ matrices → IsSomeAnd (slice_get (shapes_of matrices) matrix) P → matrix < length held
 matrix_there matrices held matrix P is there = subst (λ (l : List MatrixData). matrix < length l) (sym is) (within matrices matrix there)
@@ -21,7 +22,7 @@ matrix_there matrices held matrix P is there = subst (λ (l : List MatrixData). 
 pub local_there : (locals : List (List ℕ)) (v : ℕ) → v < length (map length locals) → v < length locals
 local_there locals v there = subst (λ (n : ℕ). v < n) (length-map locals length) there
 
-len_at : (locals : List (List ℕ)) (i : ℕ) → i < length (map length locals) → length (local_at locals i) ≡ slice_index (map length locals) i
+len_at : (locals : List (List ℕ)) (i : ℕ) → i < length (map length locals) → length (words_at locals i) ≡ slice_index (map length locals) i
 len_at [] i within = absurd (omega arith)
 len_at (l ∷ locals) zero within = refl
 len_at (l ∷ locals) (suc i) within = len_at locals i (omega arith)
@@ -32,7 +33,7 @@ columns_at (b ∷ matrices) zero n a same at = same ∙ ap (λ (c : MatrixData).
 columns_at (b ∷ matrices) (suc matrix) n a same at = columns_at matrices matrix n a same at
 
 -- the local has a word for each column
-pub columns_fit : (matrices held : List MatrixData) (matrix v : ℕ) (locals : List (List ℕ)) (words : List ℕ) (a : MatrixData) → held ≡ matrices → words ≡ local_at locals v → slice_get held matrix ≡ Some a → v < length (map length locals) → IsSomeAnd (slice_get (shapes_of matrices) matrix) (λ s. slice_index (map length locals) v ≡ s.cols) → length words ≡ a.cols
+pub columns_fit : (matrices held : List MatrixData) (matrix v : ℕ) (locals : List (List ℕ)) (words : List ℕ) (a : MatrixData) → held ≡ matrices → words ≡ words_at locals v → slice_get held matrix ≡ Some a → v < length (map length locals) → IsSomeAnd (slice_get (shapes_of matrices) matrix) (λ s. slice_index (map length locals) v ≡ s.cols) → length words ≡ a.cols
 columns_fit matrices held matrix v locals words a is words_are at there same =
     ap length words_are ∙ len_at locals v there ∙ columns_at matrices matrix (slice_index (map length locals) v) a same (ap (λ (l : List MatrixData). slice_get l matrix) (sym is) ∙ at)
 

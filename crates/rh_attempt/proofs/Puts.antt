@@ -9,7 +9,8 @@ use Rattle.rh_rules.specs.declared.body.Step.{Step}
 use Rattle.rh_rules.specs.declared.body.Step.TheVariants.{Lit, Gen, Add, Sub, Mul, Scale, Shift, Cut, Join, Sum, Count, Stencil1, Stencil2, Product, Put, DropAwait}
 use Rattle.rh_rules.specs.Bodies.{IsSoundWhen, drop_at, drops_of}
 use Rattle.rh_plan.specs.declared.made_put.MadePut.{MadePut}
-use Rattle.rh_plan.specs.Buffers.{BufferData, buffer_data, local_at, is_made, puts_at, puts_of, made_put, puts_with}
+use Rattle.rh_check.specs.Checks.{words_at}
+use Rattle.rh_plan.specs.Buffers.{BufferData, buffer_data, is_made, puts_at, puts_of, made_put, puts_with}
 use Rattle.rh_attempt.specs.Attempting.{ReadsLocals, is_local, reads_local, is_read, AreAsBefore, with_step}
 
 -- one local less, which no later put reads
@@ -27,10 +28,10 @@ unchanged later locals after is = subst (AreAsBefore later locals) (sym is) (rec
 as_later : (step : Step) (steps : List Step) (locals after : List (List ℕ)) → AreAsBefore (step ∷ steps) locals after → AreAsBefore steps locals after
 as_later step steps locals after kept = record { count = kept.count; read = λ i here. kept.read i (or_right (reads_local i step) (is_read steps i) here) }
 
-as_here : (step : Step) (steps : List Step) (locals after : List (List ℕ)) (i : ℕ) → AreAsBefore (step ∷ steps) locals after → reads_local i step ≡ true → local_at after i ≡ local_at locals i
+as_here : (step : Step) (steps : List Step) (locals after : List (List ℕ)) (i : ℕ) → AreAsBefore (step ∷ steps) locals after → reads_local i step ≡ true → words_at after i ≡ words_at locals i
 as_here step steps locals after i kept here = kept.read i (or_left (reads_local i step) (is_read steps i) here)
 
-same_when : (locals after : List (List ℕ)) (when : Option ℕ) → ((i : ℕ) → is_local i when ≡ true → local_at after i ≡ local_at locals i) → is_made after when ≡ is_made locals when
+same_when : (locals after : List (List ℕ)) (when : Option ℕ) → ((i : ℕ) → is_local i when ≡ true → words_at after i ≡ words_at locals i) → is_made after when ≡ is_made locals when
 same_when locals after None same = refl
 same_when locals after (Some y) same = ap (λ (l : List ℕ). not (slice_index l 0 == 0)) (same y (eq-eqb y y refl))
 
@@ -38,7 +39,7 @@ same_put : (promise local : ℕ) (when : Option ℕ) (steps : List Step) (locals
 same_put promise local when steps locals after kept =
     let words = as_here (Put promise local when) steps locals after local kept (or_left (local == local) (is_local local when) (eq-eqb local local refl)) in
     let made = same_when locals after when (λ i here. as_here (Put promise local when) steps locals after i kept (or_right (local == i) (is_local i when) here)) in
-    ap (λ (b : Bool). cond b ((record { promise = promise; words = local_at after local }) ∷ []) []) made
+    ap (λ (b : Bool). cond b ((record { promise = promise; words = words_at after local }) ∷ []) []) made
     ∙ ap (λ (l : List ℕ). cond (is_made locals when) ((record { promise = promise; words = l }) ∷ []) []) words
 
 same_step : (step : Step) (steps : List Step) (locals after : List (List ℕ)) → AreAsBefore (step ∷ steps) locals after → puts_at after step ≡ puts_at locals step
@@ -66,12 +67,12 @@ same_puts (step ∷ steps) locals after kept =
     ap (λ (l : List MadePut). l ++ puts_of after steps) (same_step step steps locals after kept)
     ∙ ap (λ (l : List MadePut). puts_at locals step ++ l) (same_puts steps locals after (as_later step steps locals after kept))
 
-len_at : (locals : List (List ℕ)) (i : ℕ) → slice_index (map length locals) i ≡ length (local_at locals i)
+len_at : (locals : List (List ℕ)) (i : ℕ) → slice_index (map length locals) i ≡ length (words_at locals i)
 len_at [] i = refl
 len_at (l ∷ locals) zero = refl
 len_at (l ∷ locals) (suc i) = len_at locals i
 
-when_as : (locals after : List (List ℕ)) (when : Option ℕ) → length after ≡ length locals → ((i : ℕ) → is_local i when ≡ true → local_at after i ≡ local_at locals i) → IsSoundWhen (map length locals) when → IsSoundWhen (map length after) when
+when_as : (locals after : List (List ℕ)) (when : Option ℕ) → length after ≡ length locals → ((i : ℕ) → is_local i when ≡ true → words_at after i ≡ words_at locals i) → IsSoundWhen (map length locals) when → IsSoundWhen (map length after) when
 when_as locals after None count same sound = tt
 when_as locals after (Some y) count same sound = (
   let a = length-map locals (λ (l : List ℕ). length l) in let b = length-map after (λ (l : List ℕ). length l) in omega (arith, sound.0),

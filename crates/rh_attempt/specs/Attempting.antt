@@ -7,7 +7,8 @@ use Rattle.rh_rules.specs.declared.body.Step.TheVariants.{Lit, Gen, Add, Sub, Mu
 use Rattle.rh_rules.specs.declared.node.Node.{Node}
 use Rattle.rh_plan.specs.Plans.{PlanData}
 use Rattle.rh_rules.specs.Bodies.{IsSoundWhen, drop_at}
-use Rattle.rh_plan.specs.Buffers.{BufferData, buffer_data, local_at, puts_at}
+use Rattle.rh_check.specs.Checks.{words_at}
+use Rattle.rh_plan.specs.Buffers.{BufferData, buffer_data, puts_at}
 use Rattle.rh_plan.specs.Attempts.{attempt_of}
 
 -- the buffer is that of attempt k of the task v
@@ -36,7 +37,7 @@ is_read steps local = list_any (reads_local local) steps
 -- As many locals as before, and those that puts among the steps read are as before.
 pub record AreAsBefore (steps : List Step) (before after : List (List ℕ)) : Type 0 where
   pub count : length after ≡ length before
-  pub read : (i : ℕ) → is_read steps i ≡ true → local_at after i ≡ local_at before i
+  pub read : (i : ℕ) → is_read steps i ≡ true → words_at after i ≡ words_at before i
 
 -- the step is a `let` that makes its words of several locals
 abbrev pub combines : Step → Bool

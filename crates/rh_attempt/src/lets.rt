@@ -1,13 +1,15 @@
 //! The results of the `let`s of an attempt, on the locals before them.
 
 ghost use Rattle.std.specs.Prelude.{◌≡◌, ◌≤◌, ◌<◌, ◌+◌, ◌∷◌, [], Some, true, IfOk, IsOkAnd, IsSomeAnd, length, map, slice_get, slice_index};
+ghost use Rattle.rh_words.specs.declared.limits.TheConstants.{MAX_SHIFT};
 ghost use Rattle.rh_words.specs.Kernels.{add_value, sub_value, mul_value, scale_value, shift_value, cut_value, join_value, sum_value, count_value};
 ghost use Rattle.rh_stencil.specs.Steps.{step1_value};
 ghost use Rattle.rh_stencil.specs.Grids.{step2_value};
 ghost use Rattle.std.specs.List.{AllByRecursion};
 ghost use Rattle.rh_rules.specs.Lawful.{promise_lens};
 ghost use Rattle.rh_rules.specs.Bodies.{IsSoundStep, IsThere, HasWords, AreAlike, AreHalos};
-ghost use Rattle.rh_plan.specs.Buffers.{local_at, product_if_held, let_value};
+ghost use Rattle.rh_check.specs.Checks.{words_at};
+ghost use Rattle.rh_plan.specs.Buffers.{product_if_held, let_value};
 ghost use Rattle.rh_plan.specs.Plans.{shapes_in};
 ghost use Rattle.rh_attempt.specs.Attempting.{combines};
 ghost use Rattle.rh_rules.specs.declared.body.Step.TheVariants.{Product};
@@ -93,7 +95,7 @@ fn combined(
 /// The sums of two locals, word by word.
 fn added(alloc: Global, locals: &[Local<'_>], a: u32, b: u32) -> Result<Option<Words>, OutOfMemory>
     requires { AreAlike (map length locals.now) a b }
-    ensures { IfOk result (λ o. o ≡ Some (add_value (local_at locals.now a) (local_at locals.now b))) }
+    ensures { IfOk result (λ o. o ≡ Some (add_value (words_at locals.now a) (words_at locals.now b))) }
 {
     made(rh_kernels::add_words(alloc, words_at(locals, a), words_at(locals, b)))
 }
@@ -106,7 +108,7 @@ fn subtracted(
     b: u32,
 ) -> Result<Option<Words>, OutOfMemory>
     requires { AreAlike (map length locals.now) a b }
-    ensures { IfOk result (λ o. o ≡ Some (sub_value (local_at locals.now a) (local_at locals.now b))) }
+    ensures { IfOk result (λ o. o ≡ Some (sub_value (words_at locals.now a) (words_at locals.now b))) }
 {
     made(rh_kernels::sub_words(alloc, words_at(locals, a), words_at(locals, b)))
 }
@@ -119,7 +121,7 @@ fn multiplied(
     b: u32,
 ) -> Result<Option<Words>, OutOfMemory>
     requires { AreAlike (map length locals.now) a b }
-    ensures { IfOk result (λ o. o ≡ Some (mul_value (local_at locals.now a) (local_at locals.now b))) }
+    ensures { IfOk result (λ o. o ≡ Some (mul_value (words_at locals.now a) (words_at locals.now b))) }
 {
     made(rh_kernels::mul_words(alloc, words_at(locals, a), words_at(locals, b)))
 }
@@ -127,7 +129,7 @@ fn multiplied(
 /// The words of a local, each times `k`.
 fn scaled(alloc: Global, locals: &[Local<'_>], a: u32, k: u64) -> Result<Option<Words>, OutOfMemory>
     requires { IsThere (map length locals.now) a }
-    ensures { IfOk result (λ o. o ≡ Some (scale_value (local_at locals.now a) k)) }
+    ensures { IfOk result (λ o. o ≡ Some (scale_value (words_at locals.now a) k)) }
 {
     made(rh_kernels::scale(alloc, words_at(locals, a), k))
 }
@@ -140,8 +142,8 @@ fn shifted(
     s: u32,
 ) -> Result<Option<Words>, OutOfMemory>
     requires there { IsThere (map length locals.now) a }
-    requires shift { s ≤ 63 }
-    ensures { IfOk result (λ o. o ≡ Some (shift_value (local_at locals.now a) s)) }
+    requires shift { s ≤ MAX_SHIFT }
+    ensures { IfOk result (λ o. o ≡ Some (shift_value (words_at locals.now a) s)) }
 {
     made(rh_kernels::shift(alloc, words_at(locals, a), s))
 }
@@ -156,7 +158,7 @@ fn piece(
 ) -> Result<Option<Words>, OutOfMemory>
     requires there { IsThere (map length locals.now) a }
     requires inside { from + len ≤ slice_index (map length locals.now) a }
-    ensures { IfOk result (λ o. o ≡ Some (cut_value (local_at locals.now a) from len)) }
+    ensures { IfOk result (λ o. o ≡ Some (cut_value (words_at locals.now a) from len)) }
 {
     made(rh_kernels::cut(alloc, words_at(locals, a), from, len))
 }
@@ -164,7 +166,7 @@ fn piece(
 /// The sum of the words of a local.
 fn total(alloc: Global, locals: &[Local<'_>], a: u32) -> Result<Option<Words>, OutOfMemory>
     requires { IsThere (map length locals.now) a }
-    ensures { IfOk result (λ o. o ≡ Some (sum_value (local_at locals.now a) ∷ [])) }
+    ensures { IfOk result (λ o. o ≡ Some (sum_value (words_at locals.now a) ∷ [])) }
 {
     one_word(alloc, rh_kernels::sum(words_at(locals, a)))
 }
@@ -172,7 +174,7 @@ fn total(alloc: Global, locals: &[Local<'_>], a: u32) -> Result<Option<Words>, O
 /// How many of the words of a local are not 0.
 fn counted(alloc: Global, locals: &[Local<'_>], a: u32) -> Result<Option<Words>, OutOfMemory>
     requires { IsThere (map length locals.now) a }
-    ensures { IfOk result (λ o. o ≡ Some (count_value (local_at locals.now a) ∷ [])) }
+    ensures { IfOk result (λ o. o ≡ Some (count_value (words_at locals.now a) ∷ [])) }
 {
     one_word(alloc, rh_kernels::count(words_at(locals, a)))
 }
@@ -186,7 +188,7 @@ fn product_of(
     locals: &[Local<'_>],
 ) -> Result<Words, OutOfMemory>
     requires { IsSoundStep (shapes_in plan.now) (promise_lens plan.now.promises) (map length locals.now) (Product matrix v) }
-    ensures { IfOk result (λ w. w ≡ product_if_held (slice_get plan.now.matrices matrix) (local_at locals.now v)) }
+    ensures { IfOk result (λ w. w ≡ product_if_held (slice_get plan.now.matrices matrix) (words_at locals.now v)) }
 {
     rh_sparse::product(alloc, plan.matrices().get(matrix), words_at(locals, v))
 }
@@ -194,7 +196,7 @@ fn product_of(
 /// The words of these locals, one after another.
 fn joined(alloc: Global, parts: &[u64], locals: &[Local<'_>]) -> Result<Words, OutOfMemory>
     requires { AllByRecursion (λ a. a < length locals.now) parts.now }
-    ensures { IfOk result (λ w. w ≡ join_value (map (local_at locals.now) parts.now)) }
+    ensures { IfOk result (λ w. w ≡ join_value (map (words_at locals.now) parts.now)) }
 {
     let mut words = Words::new(alloc);
     for part in parts {
@@ -216,8 +218,8 @@ fn stepped_line(
     requires left { HasWords (map length locals.now) l }
     requires line { HasWords (map length locals.now) m }
     requires right { HasWords (map length locals.now) r }
-    requires shift { s ≤ 63 }
-    ensures { IfOk result (λ o. o ≡ Some (step1_value (local_at locals.now l) (local_at locals.now m) (local_at locals.now r) k s)) }
+    requires shift { s ≤ MAX_SHIFT }
+    ensures { IfOk result (λ o. o ≡ Some (step1_value (words_at locals.now l) (words_at locals.now m) (words_at locals.now r) k s)) }
 {
     made(rh_stencil::step1(
         alloc,
@@ -243,8 +245,8 @@ fn stepped_grid(
     s: u32,
 ) -> Result<Option<Words>, OutOfMemory>
     requires halos { AreHalos (map length locals.now) north south west east m cols }
-    requires shift { s ≤ 63 }
-    ensures { IfOk result (λ o. o ≡ Some (step2_value (local_at locals.now north) (local_at locals.now south) (local_at locals.now west) (local_at locals.now east) (local_at locals.now m) cols k s)) }
+    requires shift { s ≤ MAX_SHIFT }
+    ensures { IfOk result (λ o. o ≡ Some (step2_value (words_at locals.now north) (words_at locals.now south) (words_at locals.now west) (words_at locals.now east) (words_at locals.now m) cols k s)) }
 {
     made(rh_stencil::step2(
         alloc,
@@ -262,7 +264,7 @@ fn stepped_grid(
 /// The words of the local of this number.
 fn words_at_word<'a>(locals: &'a [Local<'_>], at: u64) -> &'a [u64]
     requires { at < length locals.now }
-    ensures { result.now ≡ local_at locals.now at }
+    ensures { result.now ≡ words_at locals.now at }
 {
     locals[at as usize].words()
 }
@@ -270,7 +272,7 @@ fn words_at_word<'a>(locals: &'a [Local<'_>], at: u64) -> &'a [u64]
 /// The words of a local.
 pub(crate) fn words_at<'a>(locals: &'a [Local<'_>], at: u32) -> &'a [u64]
     requires { at < length locals.now }
-    ensures { result.now ≡ local_at locals.now at }
+    ensures { result.now ≡ words_at locals.now at }
 {
     locals[at as usize].words()
 }

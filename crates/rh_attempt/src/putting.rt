@@ -3,7 +3,8 @@
 ghost use Rattle.std.specs.Prelude.{◌≡◌, ◌<◌, ◌++◌, Some, IfOk, OnOk, length, map};
 ghost use Rattle.std.specs.List.{AllByRecursion};
 ghost use Rattle.rh_rules.specs.Bodies.{IsSoundWhen, drops_of};
-ghost use Rattle.rh_plan.specs.Buffers.{buffer_data, is_made, local_at, puts_of};
+ghost use Rattle.rh_check.specs.Checks.{words_at};
+ghost use Rattle.rh_plan.specs.Buffers.{buffer_data, is_made, puts_of};
 ghost use Rattle.rh_attempt.specs.Attempting.{ReadsLocals, is_read, reads_local, with_step, AreAsBefore};
 
 use crate::buffer::Buffer;
@@ -71,7 +72,7 @@ fn put_words(
     locals: &mut Vec<Local<'_>>,
 ) -> Result<Words, OutOfMemory>
     requires { local < length locals.old.items }
-    ensures words { IfOk result (λ w. w ≡ local_at locals.old.items local) }
+    ensures words { IfOk result (λ w. w ≡ words_at locals.old.items local) }
     ensures locals { OnOk result (AreAsBefore later.now locals.old.items locals.new.items) }
 {
     if is_read(later, local) {

@@ -7,7 +7,7 @@ use Rattle.rh_check.specs.declared.spec.Spec.TheVariants.{Range, Total, Linear, 
 use Rattle.rh_check.specs.declared.spec.UserSpec.{UserSpec}
 use Rattle.rh_check.specs.Checks.{spec_passes}
 
--- the check is built, and compares sums of all words
+-- the check compares a sum of all words
 abbrev pub IsSumCheck : Spec → Type 0
 IsSumCheck (Range lo hi) = ⊥
 IsSumCheck (Total sum) = ⊤

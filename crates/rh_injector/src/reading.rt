@@ -117,10 +117,7 @@ impl Reader {
 fn begins_fault(line: &[u8]) -> bool
     ensures { result ≡ agrees first_place (words_of line.now) }
 {
-    agrees(
-        &[Place::WordPlace(Keyword::FaultWord)],
-        &mut LineWords::of(line),
-    )
+    agrees(&[Place::WordPlace(Keyword::FaultWord)], LineWords::of(line))
 }
 
 /// The places of the words of a line.

@@ -1,6 +1,7 @@
 //! Lists that are made word by word.
 
 ghost use Rattle.std.specs.Prelude.{◌≡◌, ◌≤◌, IfOk, length};
+ghost use Rattle.rh_words.specs.declared.limits.TheConstants.{MAX_SHIFT};
 ghost use Rattle.rh_words.specs.Kernels.{add_value, sub_value, mul_value, scale_value, shift_value};
 
 use rh_words::{OutOfMemory, Words, add, asr, mul, sub};
@@ -43,7 +44,7 @@ pub fn scale(alloc: Global, a: &[u64], k: u64) -> Result<Words, OutOfMemory>
 
 /// Each word shifted to the right by s bits, with copies of its sign bit.
 pub fn shift(alloc: Global, a: &[u64], s: u32) -> Result<Words, OutOfMemory>
-    requires { s ≤ 63 }
+    requires { s ≤ MAX_SHIFT }
     ensures { IfOk result (λ w. w ≡ shift_value a.now s) }
 {
     let shifted = a.iter().map(|x| asr(*x, s)).collect(alloc)?;

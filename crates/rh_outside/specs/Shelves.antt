@@ -1,5 +1,5 @@
 -- What the calls of a file store answer.
-use Rattle.std.specs.Prelude.{◌≡◌, ◌≢◌, ℕ, ◌<◌, ◌≤◌, List, [], length}
+use Rattle.std.specs.Prelude.{◌≡◌, ◌≢◌, ℕ, ◌<◌, ◌≤◌, List, [], Some, length}
 use Rattle.rh_outside.specs.Counts.{Rose}
 use Rattle.rh_outside.specs.States.{StoreState, WhereTold}
 use Rattle.rh_outside.specs.declared.shelf.ReadAnswer.{ReadAnswer}
@@ -18,7 +18,8 @@ Reads before after name limit bytes Failed =
     Rose (before.failed_reads name) (after.failed_reads name) × (bytes ≡ [])
 Reads before after name limit bytes TooLong =
     WhereTold (before.file name) (λ told. limit < length told) × (bytes ≡ [])
-Reads before after name limit bytes OutOfMemory = bytes ≡ []
+Reads before after name limit bytes OutOfMemory =
+    ((told : List ℕ) → before.file name ≡ Some (Some told) → length told ≤ limit) × (bytes ≡ [])
 
 -- A write of these bytes to the file of this name gave this answer.
 abbrev pub Writes : StoreState → StoreState → List ℕ → List ℕ → WriteAnswer → Type 0

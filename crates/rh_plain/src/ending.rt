@@ -1,6 +1,7 @@
 //! How groups and scopes end, by the verdicts of lower nodes.
 
 ghost use Rattle.std.specs.Prelude.{◌≡◌, ◌≤◌, length, slice_get};
+ghost use Rattle.rh_words.specs.declared.limits.TheConstants.{MAX_NODES};
 ghost use Rattle.rh_plan.specs.declared.outcome.Verdict.TheVariants.{Ended};
 ghost use Rattle.rh_plan.specs.Results.{is_accepted, is_failed, is_skipped};
 ghost use Rattle.rh_plain.specs.Endings.{has_opened, verdict_passes, count_of};
@@ -19,7 +20,7 @@ pub(crate) fn has_opened(verdicts: &[Verdict], group: Option<u32>) -> bool
 
 /// How a scope with these members ends: the tasks among them are counted by their verdicts.
 pub(crate) fn scope_ending(verdicts: &[Verdict], members: &[u32]) -> Verdict
-    requires { length members.now ≤ 16384 }
+    requires { length members.now ≤ MAX_NODES }
     ensures { result ≡ Ended (count_of is_accepted verdicts.now members.now) (count_of is_failed verdicts.now members.now) (count_of is_skipped verdicts.now members.now) }
 {
     let mut accepted: u32 = 0;

@@ -4,11 +4,11 @@
 //!
 //! # Example
 //!
-//! The whole library in one example: the text of a program is read, planned, run and reported. A test of rh_top compiles and runs it.
+//! The whole library in one example: the text of a program is read, planned, run and reported. A test of rh_call_tests compiles and runs it.
 //!
 //! ```text
 //! let text = read_program(alloc, program)?;
-//! let plan = plan(alloc, &text)?;
+//! let plan = plan(alloc, &text, &NoChecks)?;
 //! let faults = Faults::new(alloc);
 //! let outcome = run_plain(alloc, &plan, &faults, &NoChecks, &OpenGate)?;
 //! let mut report = Bytes::new(alloc);

@@ -1,6 +1,7 @@
 //! Running a plan on one thread.
 
 ghost use Rattle.std.specs.Prelude.{◌≡◌, ◌<◌, ◌≤◌, ◌+◌, None, [], IfOk, OnOk, length, map, take};
+ghost use Rattle.rh_words.specs.declared.limits.TheConstants.{MAX_AWAITS};
 ghost use Rattle.rh_plan.specs.Plans.{OfNode};
 ghost use Rattle.rh_plan.specs.Results.{blamed};
 ghost use Rattle.rh_plan.specs.Judging.{node_result};
@@ -160,7 +161,7 @@ fn cause_of(plan: &Plan, node: u32, verdicts: &[Verdict], values: &Values) -> Op
 
 /// For each awaited promise, of which there are at most 16, whether it has words.
 fn are_present(values: &Values, awaits: &[u32]) -> [bool; 16]
-    requires { length awaits.now ≤ 16 }
+    requires { length awaits.now ≤ MAX_AWAITS }
     ensures { take (length awaits.now) result ≡ map (has_words values.now) awaits.now }
 {
     let mut present = [false; 16];

@@ -10,11 +10,11 @@ use Rattle.std.proofs.lemmas.Slice.Eq.{bytes_eq-Decides}
 use Rattle.rh_injector.specs.declared.fault_text.FaultLine.{FaultLine}
 use Rattle.rh_injector.specs.Faults.{has_place_of}
 use Rattle.rh_rules.specs.declared.node.Node.{Node}
-use Rattle.rh_rules.specs.Lawful.{local_lens, local_names}
+use Rattle.rh_rules.specs.Lawful.{is_task, local_lens, local_names}
 use Rattle.rh_rules.specs.Tables.{if_any}
 use Rattle.rh_plan.specs.Plans.{PlanData, shapes_in}
 use Rattle.rh_plan.specs.Judging.{attempts_of}
-use Rattle.rh_plan.specs.FaultLines.{is_task, task_number, task_of, local_number, local_of, is_unknown_task, is_bad_attempt, is_unknown_local, is_bad_word, is_zero_mask, is_same_place, is_fault_twice, fault_reason, strike_of}
+use Rattle.rh_plan.specs.FaultLines.{task_number, task_of, local_number, local_of, is_unknown_task, is_bad_attempt, is_unknown_local, is_bad_word, is_zero_mask, is_same_place, is_fault_twice, fault_reason, strike_of}
 
 -- The line names a place in the plan.
 pub record IsPlaced (plan : PlanData) (f : FaultLine) : Type 0 where

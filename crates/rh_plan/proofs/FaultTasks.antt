@@ -16,12 +16,12 @@ use Rattle.rh_rules.specs.declared.node.Kind.TheVariants.{Task, Group, Scope}
 use Rattle.rh_rules.specs.declared.node.Node.{Node}
 use Rattle.rh_rules.specs.declared.node.PlannedPromise.{PlannedPromise}
 use Rattle.rh_rules.specs.declared.shape.Shape.{Shape}
-use Rattle.rh_rules.specs.Lawful.{local_lens, IsLawfulKind, IsLawfulTask}
+use Rattle.rh_rules.specs.Lawful.{is_task, local_lens, IsLawfulKind, IsLawfulTask}
 use Rattle.rh_rules.specs.Tables.{if_any}
 use Rattle.rh_plan.specs.Plans.{PlanData, shapes_in}
 use Rattle.rh_plan.specs.Lawful.{IsLawfulPlan}
 use Rattle.rh_plan.specs.Judging.{attempts_of}
-use Rattle.rh_plan.specs.FaultLines.{is_task, task_number, task_of, local_number, local_of, fault_reason, is_zero_mask, strike_of}
+use Rattle.rh_plan.specs.FaultLines.{task_number, task_of, local_number, local_of, fault_reason, is_zero_mask, strike_of}
 use Rattle.rh_plan.specs.FaultTables.{reason_in_task, strike_in_task}
 use Rattle.rh_plan.proofs.FaultPlaces.{found_there}
 

@@ -22,7 +22,8 @@ use Rattle.rh_plan.specs.declared.made_put.MadePut.{MadePut}
 use Rattle.rh_rules.specs.Lawful.{promise_lens}
 use Rattle.rh_plan.specs.Plans.{PlanData, shapes_in}
 use Rattle.rh_plan.specs.Faulted.{faulted, faulted_from}
-use Rattle.rh_plan.specs.Buffers.{local_at, product_if_held, let_value, with_local, locals_after, locals_from, copies_from, is_made, puts_at, puts_of, buffer_of, words_put, PutsFit}
+use Rattle.rh_check.specs.Checks.{words_at}
+use Rattle.rh_plan.specs.Buffers.{product_if_held, let_value, with_local, locals_after, locals_from, copies_from, is_made, puts_at, puts_of, buffer_of, words_put, PutsFit}
 
 length-faulted_from : (faults : List Strike) (local at : ℕ) (words : List ℕ) → length (faulted_from faults local at words) ≡ length words
 length-faulted_from faults local at [] = refl
@@ -34,10 +35,10 @@ lens_copies faults i (words ∷ inputs) =
     ap (λ (n : ℕ). n ∷ map length (copies_from faults (i + 1) inputs)) (length-faulted_from faults i 0 words)
     ∙ ap (λ (l : List ℕ). length words ∷ l) (lens_copies faults (i + 1) inputs)
 
-length-local_at : (locals : List (List ℕ)) (i : ℕ) → i < length (map length locals) → length (local_at locals i) ≡ slice_index (map length locals) i
-length-local_at [] i h = absurd (omega arith)
-length-local_at (l ∷ locals) zero h = refl
-length-local_at (l ∷ locals) (suc i) h = length-local_at locals i (omega arith)
+length-words_at : (locals : List (List ℕ)) (i : ℕ) → i < length (map length locals) → length (words_at locals i) ≡ slice_index (map length locals) i
+length-words_at [] i h = absurd (omega arith)
+length-words_at (l ∷ locals) zero h = refl
+length-words_at (l ∷ locals) (suc i) h = length-words_at locals i (omega arith)
 
 length-word_by_word : (f : ℕ → ℕ → ℕ) (xs ys : List ℕ) → length xs ≡ length ys → length (word_by_word f xs ys) ≡ length xs
 length-word_by_word f [] ys e = refl
@@ -45,21 +46,21 @@ length-word_by_word f (x ∷ xs) [] e = absurd (omega arith)
 length-word_by_word f (x ∷ xs) (y ∷ ys) e = ap suc (length-word_by_word f xs ys (omega arith))
 
 -- the length of a result that is made word by word of two locals
-len_of_both : (f : ℕ → ℕ → ℕ) (locals : List (List ℕ)) (a b : ℕ) → AreAlike (map length locals) a b → length (word_by_word f (local_at locals a) (local_at locals b)) ≡ slice_index (map length locals) a
+len_of_both : (f : ℕ → ℕ → ℕ) (locals : List (List ℕ)) (a b : ℕ) → AreAlike (map length locals) a b → length (word_by_word f (words_at locals a) (words_at locals b)) ≡ slice_index (map length locals) a
 len_of_both f locals a b sound =
-    let same : length (local_at locals a) ≡ length (local_at locals b) = length-local_at locals a sound.0 ∙ sound.2 ∙ sym (length-local_at locals b sound.1) in
-    length-word_by_word f (local_at locals a) (local_at locals b) same ∙ length-local_at locals a sound.0
+    let same : length (words_at locals a) ≡ length (words_at locals b) = length-words_at locals a sound.0 ∙ sound.2 ∙ sym (length-words_at locals b sound.1) in
+    length-word_by_word f (words_at locals a) (words_at locals b) same ∙ length-words_at locals a sound.0
 
 -- the length of a result that is made word by word of one local
-len_of_each : (f : ℕ → ℕ) (locals : List (List ℕ)) (a : ℕ) → a < length (map length locals) → length (map f (local_at locals a)) ≡ slice_index (map length locals) a
-len_of_each f locals a there = length-map (local_at locals a) f ∙ length-local_at locals a there
+len_of_each : (f : ℕ → ℕ) (locals : List (List ℕ)) (a : ℕ) → a < length (map length locals) → length (map f (words_at locals a)) ≡ slice_index (map length locals) a
+len_of_each f locals a there = length-map (words_at locals a) f ∙ length-words_at locals a there
 
-len_of_join : (locals : List (List ℕ)) (parts : List ℕ) → AllByRecursion (λ a. a < length (map length locals)) parts → length (concat (map (local_at locals) parts)) ≡ sum (map (slice_index (map length locals)) parts)
+len_of_join : (locals : List (List ℕ)) (parts : List ℕ) → AllByRecursion (λ a. a < length (map length locals)) parts → length (concat (map (words_at locals) parts)) ≡ sum (map (slice_index (map length locals)) parts)
 len_of_join locals [] there = refl
 len_of_join locals (a ∷ parts) there =
-    let here = length-local_at locals a there.0 in
+    let here = length-words_at locals a there.0 in
     let rest = len_of_join locals parts there.1 in
-    length-append (local_at locals a) (concat (map (local_at locals) parts)) ∙ ap (λ (n : ℕ). n + length (concat (map (local_at locals) parts))) here ∙ ap (λ (n : ℕ). slice_index (map length locals) a + n) rest
+    length-append (words_at locals a) (concat (map (words_at locals) parts)) ∙ ap (λ (n : ℕ). n + length (concat (map (words_at locals) parts))) here ∙ ap (λ (n : ℕ). slice_index (map length locals) a + n) rest
     ∙ sym (sum_by-cons (λ x. x) (slice_index (map length locals) a) (map (slice_index (map length locals)) parts))
 
 len_of_cut : (from len : ℕ) (words : List ℕ) (n : ℕ) → length words ≡ n → from + len ≤ n → length (slice_range words from (from + len)) ≡ len
@@ -83,16 +84,16 @@ len_of_let plan ps locals (Sub a b) sound = ap Some (len_of_both sub_word locals
 len_of_let plan ps locals (Mul a b) sound = ap Some (len_of_both mul_word locals a b sound)
 len_of_let plan ps locals (Scale a k) sound = ap Some (len_of_each (λ x. mul_word x k) locals a sound)
 len_of_let plan ps locals (Shift a s) sound = ap Some (len_of_each (λ x. asr_word x s) locals a sound.0)
-len_of_let plan ps locals (Cut a from len) sound = ap Some (len_of_cut from len (local_at locals a) (slice_index (map length locals) a) (length-local_at locals a sound.0) sound.2)
+len_of_let plan ps locals (Cut a from len) sound = ap Some (len_of_cut from len (words_at locals a) (slice_index (map length locals) a) (length-words_at locals a sound.0) sound.2)
 len_of_let plan ps locals (Join parts) sound = ap Some (len_of_join locals parts sound.0)
 len_of_let plan ps locals (Sum a) sound = refl
 len_of_let plan ps locals (Count a) sound = refl
 len_of_let plan ps locals (Stencil1 l m r k s) sound =
-    ap Some (length-map-range_with_len (line_word (last_word (local_at locals l)) (local_at locals m) (first_word (local_at locals r)) k s) 0 (length (local_at locals m)) ∙ length-local_at locals m sound.1.0)
+    ap Some (length-map-range_with_len (line_word (last_word (words_at locals l)) (words_at locals m) (first_word (words_at locals r)) k s) 0 (length (words_at locals m)) ∙ length-words_at locals m sound.1.0)
 len_of_let plan ps locals (Stencil2 north south west east m cols k s) sound =
-    let at = local_at locals in
-    ap Some (length-map-range_with_len (grid_word (at north) (at south) (at west) (at east) (at m) cols k s) 0 (length (at m)) ∙ length-local_at locals m sound.0.there.4)
-len_of_let plan ps locals (Product matrix v) sound = ap Some (len_of_product plan.matrices matrix (local_at locals v))
+    let at = words_at locals in
+    ap Some (length-map-range_with_len (grid_word (at north) (at south) (at west) (at east) (at m) cols k s) 0 (length (at m)) ∙ length-words_at locals m sound.0.there.4)
+len_of_let plan ps locals (Product matrix v) sound = ap Some (len_of_product plan.matrices matrix (words_at locals v))
 len_of_let plan ps locals (Put promise local when) sound = refl
 len_of_let plan ps locals (DropAwait promise) sound = refl
 
@@ -122,11 +123,11 @@ extends_from plan faults locals (step ∷ steps) =
     (one ++ more, all ∙ ap (λ (l : List (List ℕ)). l ++ more) after ∙ append_assoc locals one more)
 
 -- A local never changes: among all locals it is what it was when it was made.
-pub local_stays : (plan : PlanData) (faults : List Strike) (locals : List (List ℕ)) (steps : List Step) (i : ℕ) → i < length (map length locals) → local_at (locals_from plan faults locals steps) i ≡ local_at locals i
+pub local_stays : (plan : PlanData) (faults : List Strike) (locals : List (List ℕ)) (steps : List Step) (i : ℕ) → i < length (map length locals) → words_at (locals_from plan faults locals steps) i ≡ words_at locals i
 local_stays plan faults locals steps i there =
     let (more, all) = extends_from plan faults locals steps in
     let long = length-map locals (λ (l : List ℕ). length l) in
-    ap (λ (l : List (List ℕ)). local_at l i) all ∙ get_or_append_left locals more [] i (omega arith)
+    ap (λ (l : List (List ℕ)). words_at l i) all ∙ get_or_append_left locals more [] i (omega arith)
 
 fits_append : (plan : PlanData) (ps qs : List MadePut) → PutsFit plan ps → PutsFit plan qs → PutsFit plan (ps ++ qs)
 fits_append plan [] qs a b = b
@@ -139,8 +140,8 @@ fits_if plan false ps fit = tt
 put_fits : (plan : PlanData) (faults : List Strike) (locals : List (List ℕ)) (steps : List Step) (promise local : ℕ) (when : Option ℕ) → IsSoundStep (shapes_in plan) (promise_lens plan.promises) (map length locals) (Put promise local when) → PutsFit plan (puts_at (locals_from plan faults locals steps) (Put promise local when))
 put_fits plan faults locals steps promise local when sound =
     let all = locals_from plan faults locals steps in
-    fits_if plan (is_made all when) ((record { promise = promise; words = local_at all local }) ∷ [])
-    (ap length (local_stays plan faults locals steps local sound.1) ∙ length-local_at locals local sound.1 ∙ sound.2, tt)
+    fits_if plan (is_made all when) ((record { promise = promise; words = words_at all local }) ∷ [])
+    (ap length (local_stays plan faults locals steps local sound.1) ∙ length-words_at locals local sound.1 ∙ sound.2, tt)
 
 step_fits : (plan : PlanData) (faults : List Strike) (locals : List (List ℕ)) (steps : List Step) (step : Step) → IsSoundStep (shapes_in plan) (promise_lens plan.promises) (map length locals) step → PutsFit plan (puts_at (locals_from plan faults locals steps) step)
 step_fits plan faults locals steps (Put promise local when) sound = put_fits plan faults locals steps promise local when sound

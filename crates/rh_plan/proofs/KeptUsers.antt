@@ -17,7 +17,7 @@ use Rattle.rh_rules.specs.declared.block.OpenBlock.{OpenBlock}
 use Rattle.rh_rules.specs.declared.block.OpenBlock.TheVariants.{TaskBlock, MatrixBlock, GroupBlock, ScopeBlock}
 use Rattle.rh_rules.specs.Above.{Look, Facts, checks_above, checks_by, check_of, spec_asked, promises_above, matrices_above, locals_above, nodes_above, nodes_by, ended_node, facts_with}
 use Rattle.rh_planner.specs.Planned.{look_above, IsDraftOf}
-use Rattle.rh_planner.proofs.SoundTasks.{all_append}
+use Rattle.rh_tables.proofs.SoundTasks.{all_append}
 use Rattle.rh_planner.proofs.DeclaredPromises.{all_at}
 use Rattle.rh_plan.specs.Plans.{PlanData, plan_data, edges_from}
 use Rattle.rh_plan.specs.Planned.{IsPlanOf}

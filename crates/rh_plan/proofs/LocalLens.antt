@@ -15,7 +15,7 @@ use Rattle.rh_rules.specs.declared.shape.Shape.{Shape}
 use Rattle.rh_rules.specs.Bodies.{shapes_of, rows_at, AreSoundSteps, IsSoundStep, lens_after, lens_after_all}
 use Rattle.rh_rules.specs.declared.node.Node.{Node}
 use Rattle.rh_rules.specs.Lawful.{names_at}
-use Rattle.rh_planner.proofs.FirstPlaces.{place_or, first_place, next_place, position-first, position_map}
+use Rattle.rh_tables.proofs.FirstPlaces.{place_or, first_place, next_place, position-first, position_map}
 use Rattle.rh_plan.specs.FaultLines.{local_number}
 use Rattle.rh_plan.specs.FaultTables.{IsShortJoin, name_at}
 

@@ -16,7 +16,7 @@ use Rattle.rh_rules.specs.Facets.{facets, terms_of, sixteen_terms}
 use Rattle.rh_rules.specs.Above.{Facts, matrix_used, numbers_used, put_step, check_of, spec_asked}
 use Rattle.rh_rules.specs.Rules.{is_await, is_dropped, is_unanswered}
 use Rattle.rh_planner.proofs.Puts.{with_put}
-use Rattle.rh_planner.proofs.Using.{neither, not_false}
+use Rattle.rh_tables.proofs.Using.{neither, not_false}
 use Rattle.rh_plan.specs.PlanTexts.{IsNamed, IsFirstNamed, AreNamed, SaysStep, made_by, is_declaration, names_of, AreTerms, SaysCheck, is_check}
 use Rattle.rh_plan.proofs.SaidParts.{at_left}
 use Rattle.rh_check.specs.declared.spec.Term.{Term}

@@ -17,7 +17,7 @@ use Rattle.rh_rules.specs.declared.body.Step.{Step}
 use Rattle.rh_rules.specs.declared.node.PlannedPromise.{PlannedPromise}
 use Rattle.rh_rules.specs.Tables.{LocalName, Putting, declared_promise, place_of, is_local, number_of, promise_at, is_promise, promise_number, given, or_else, named_shape, is_matrix, matrix_at, matrix_number}
 use Rattle.rh_rules.specs.Facets.{cells_of}
-use Rattle.rh_planner.proofs.Using.{neither, not_false}
+use Rattle.rh_tables.proofs.Using.{neither, not_false}
 use Rattle.rh_plan.specs.PlanTexts.{IsNamed, IsFirstNamed, AreNamed, SaysStep, made_by, SayBody, MatrixLines, AreCells, SaysRow, SayRows, IsMatrixOf, AreMatricesOf, Declares, DeclareAll, names_of, SaysCheck, SayChecks}
 use Rattle.rh_check.specs.Users.{HandedChecks}
 use Rattle.rh_rules.specs.Kept.{KeptCheck}

@@ -41,9 +41,9 @@ use Rattle.rh_planner.proofs.Counting.{counted, task_outside}
 use Rattle.rh_planner.proofs.Keeping.{Keeps, keeps}
 use Rattle.rh_planner.proofs.Lets.{with_local, after_let}
 use Rattle.rh_planner.proofs.Puts.{with_put, after_put}
-use Rattle.rh_planner.proofs.Using.{not_false}
+use Rattle.rh_tables.proofs.Using.{not_false}
 use Rattle.rh_planner.proofs.Views.{View, as_promise, as_matrix, as_row, as_task, as_finish, as_group, as_end, as_let, as_put, as_drop, view, IsCheck, as_check}
-use Rattle.rh_planner.proofs.FirstPlaces.{is_some_position}
+use Rattle.rh_tables.proofs.FirstPlaces.{is_some_position}
 use Rattle.rh_planner.proofs.Wholes.{facts_next}
 use Rattle.rh_plan.specs.PlanTexts.{AreNamed, SaysStep, made_by, SayBody, MatrixLines, matrix_lines, matrix_names, SayRows, IsMatrixOf, AreMatricesOf, TaskLines, lines_of, IsTaskOf, IsGroupOf, IsScopeOf, Parts, no_parts, a_promise, a_matrix, a_task, a_scope, a_group, lines_in, nodes_in, matrices_in, SayParts, is_declaration, Declares, DeclareAll, names_of, PlansSayTheirTexts, SaysCheck, SayChecks, is_check, check_lines, step_lines}
 use Rattle.rh_plan.proofs.SaidParts.{parts_more, AreInside, inside_none, IsInScope, IsInGroup, AreSaid, said_more, said_part}

@@ -1,6 +1,6 @@
--- Tasks found by name through one ordered map.
+-- Tasks found by name through one map.
 use Rattle.std.proofs.Common.{◌≡◌, ℕ, ◌+◌, ◌<◌, ◌&&◌, List, [], ◌∷◌, ◌++◌, Bool, true, false, cond, Option, Some, None, length, map, take, get_or, refl, ap, sym, ◌∙◌, subst, arith}
-use Rattle.std.specs.BTreeMap.{BTreeMap, is_at}
+use Rattle.std.specs.HashMap.{HashMap}
 use Rattle.std.specs.List.{IsDistinct}
 use Rattle.std.specs.Str.{bytes_eq}
 use Rattle.std.proofs.lemmas.Bool.{false≢true, and_parts}
@@ -9,13 +9,13 @@ use Rattle.std.proofs.lemmas.List.Quantifiers.{position-Some}
 use Rattle.std.proofs.lemmas.Map.Keys.{apart_from_distinct}
 use Rattle.std.proofs.lemmas.Slice.Eq.{bytes_eq-Decides}
 use Rattle.rh_words.specs.Naming.{is_name}
-use Rattle.rh_words.specs.NameKeys.{name_key}
+use Rattle.rh_words.specs.NameKeys.{name_key, keys_eq}
 use Rattle.rh_words.specs.declared.name_key.NameKey.{NameKey}
-use Rattle.rh_planner.specs.Declarations.{key_cmp}
-use Rattle.rh_planner.proofs.NameKeys.{KeysTellNames, keys_compare}
-use Rattle.rh_planner.proofs.FirstPlaces.{place_or, position_push}
+use Rattle.rh_tables.proofs.NameKeys.{KeysTellNames, keys_equal}
+use Rattle.rh_tables.proofs.FirstPlaces.{place_or, position_push}
 use Rattle.rh_rules.specs.declared.node.Node.{Node}
-use Rattle.rh_plan.specs.FaultLines.{is_task, task_among}
+use Rattle.rh_rules.specs.Lawful.{is_task}
+use Rattle.rh_plan.specs.FaultLines.{task_among}
 use Rattle.rh_plan.specs.FaultTables.{number_known, IsTaskNoted, AreTasksNumbered}
 
 found_first : (b : Bool) (n : ℕ) (o p : Option ℕ) → o ≡ p → (b ≡ true → p ≡ None) → cond b (Some n) o ≡ place_or p (cond b (Some n) None)
@@ -53,9 +53,9 @@ first_of_name nodes at d name distinct within is = none_or (task_among (take at 
         false≢true (sym moved ∙ same)
 
 -- one more node
-pub numbered_more : KeysTellNames → (old new : BTreeMap NameKey ℕ) (nodes : List Node) (at : ℕ) (node : Node) → at < length nodes → node ≡ get_or nodes at node → is_name node.name ≡ true → IsDistinct bytes_eq (map (λ n. n.name) nodes) → AreTasksNumbered old (take at nodes) → IsTaskNoted old new node at → AreTasksNumbered new (take (at + 1) nodes)
+pub numbered_more : {S : Type 0} → KeysTellNames → (old new : HashMap NameKey ℕ S) (nodes : List Node) (at : ℕ) (node : Node) → at < length nodes → node ≡ get_or nodes at node → is_name node.name ≡ true → IsDistinct bytes_eq (map (λ n. n.name) nodes) → AreTasksNumbered old (take at nodes) → IsTaskNoted old new node at → AreTasksNumbered new (take (at + 1) nodes)
 numbered_more law old new nodes at node within is named distinct numbered noted name is_it =
-    let key : is_at (key_cmp (name_key node.name)) (name_key name) ≡ bytes_eq node.name name = keys_compare law node.name name named is_it in
+    let key : keys_eq (name_key node.name) (name_key name) ≡ bytes_eq node.name name = keys_equal law node.name name named is_it in
     let long : length (take at nodes) ≡ at = length-take-le at nodes (omega arith) in
     noted name
     ∙ ap (λ t. cond (is_task node.kind && t) (Some at) (number_known old name)) key

@@ -7,6 +7,7 @@ use Rattle.rh_stencil.specs.Steps.{step1_value}
 use Rattle.rh_stencil.specs.Grids.{step2_value}
 use Rattle.rh_sparse.specs.Matrix.{MatrixData}
 use Rattle.rh_sparse.specs.Product.{product_value}
+use Rattle.rh_check.specs.Checks.{words_at}
 use Rattle.rh_injector.specs.declared.faults.Strike.{Strike}
 use Rattle.rh_rules.specs.declared.body.Step.{Step}
 use Rattle.rh_rules.specs.declared.body.Step.TheVariants.{Lit, Gen, Add, Sub, Mul, Scale, Shift, Cut, Join, Sum, Count, Stencil1, Stencil2, Product, Put, DropAwait}
@@ -24,10 +25,6 @@ pub record BufferData : Type 0 where
 abbrev pub buffer_data : List MadePut → List ℕ → BufferData
 buffer_data puts drops = record { puts = puts; drops = drops }
 
--- the words of a local
-abbrev pub local_at : List (List ℕ) → ℕ → List ℕ
-local_at locals i = slice_index_or locals i []
-
 -- the product of a matrix, where there is one, and a local
 abbrev pub product_if_held : Option MatrixData → List ℕ → List ℕ
 product_if_held None words = []
@@ -37,20 +34,20 @@ product_if_held (Some a) words = product_value a words
 abbrev pub let_value : PlanData → List (List ℕ) → Step → Option (List ℕ)
 let_value plan locals (Lit words) = Some (lit_value words)
 let_value plan locals (Gen n start limit) = Some (gen_value n start limit)
-let_value plan locals (Add a b) = Some (add_value (local_at locals a) (local_at locals b))
-let_value plan locals (Sub a b) = Some (sub_value (local_at locals a) (local_at locals b))
-let_value plan locals (Mul a b) = Some (mul_value (local_at locals a) (local_at locals b))
-let_value plan locals (Scale a k) = Some (scale_value (local_at locals a) k)
-let_value plan locals (Shift a s) = Some (shift_value (local_at locals a) s)
-let_value plan locals (Cut a from len) = Some (cut_value (local_at locals a) from len)
-let_value plan locals (Join parts) = Some (join_value (map (local_at locals) parts))
-let_value plan locals (Sum a) = Some (sum_value (local_at locals a) ∷ [])
-let_value plan locals (Count a) = Some (count_value (local_at locals a) ∷ [])
-let_value plan locals (Stencil1 l m r k s) = Some (step1_value (local_at locals l) (local_at locals m) (local_at locals r) k s)
+let_value plan locals (Add a b) = Some (add_value (words_at locals a) (words_at locals b))
+let_value plan locals (Sub a b) = Some (sub_value (words_at locals a) (words_at locals b))
+let_value plan locals (Mul a b) = Some (mul_value (words_at locals a) (words_at locals b))
+let_value plan locals (Scale a k) = Some (scale_value (words_at locals a) k)
+let_value plan locals (Shift a s) = Some (shift_value (words_at locals a) s)
+let_value plan locals (Cut a from len) = Some (cut_value (words_at locals a) from len)
+let_value plan locals (Join parts) = Some (join_value (map (words_at locals) parts))
+let_value plan locals (Sum a) = Some (sum_value (words_at locals a) ∷ [])
+let_value plan locals (Count a) = Some (count_value (words_at locals a) ∷ [])
+let_value plan locals (Stencil1 l m r k s) = Some (step1_value (words_at locals l) (words_at locals m) (words_at locals r) k s)
 let_value plan locals (Stencil2 north south west east m cols k s) =
-    let at = local_at locals in
+    let at = words_at locals in
     Some (step2_value (at north) (at south) (at west) (at east) (at m) cols k s)
-let_value plan locals (Product matrix v) = Some (product_if_held (slice_get plan.matrices matrix) (local_at locals v))
+let_value plan locals (Product matrix v) = Some (product_if_held (slice_get plan.matrices matrix) (words_at locals v))
 let_value plan locals (Put promise local when) = None
 let_value plan locals (DropAwait promise) = None
 
@@ -80,7 +77,7 @@ locals_of plan faults inputs steps = locals_from plan faults (copies_from faults
 -- a put without `when` is made, and one with it where the word of that local is not 0
 abbrev pub is_made : List (List ℕ) → Option ℕ → Bool
 is_made locals None = true
-is_made locals (Some y) = not (slice_index (local_at locals y) 0 == 0)
+is_made locals (Some y) = not (slice_index (words_at locals y) 0 == 0)
 
 -- what a step puts, given all locals of the attempt
 abbrev pub puts_at : List (List ℕ) → Step → List MadePut
@@ -98,7 +95,7 @@ puts_at locals (Count a) = []
 puts_at locals (Stencil1 l m r k s) = []
 puts_at locals (Stencil2 north south west east m cols k s) = []
 puts_at locals (Product matrix v) = []
-puts_at locals (Put promise local when) = cond (is_made locals when) ((record { promise = promise; words = local_at locals local }) ∷ []) []
+puts_at locals (Put promise local when) = cond (is_made locals when) ((record { promise = promise; words = words_at locals local }) ∷ []) []
 puts_at locals (DropAwait promise) = []
 
 -- what the steps put, in their order, given all locals of the attempt

@@ -8,19 +8,12 @@ use Rattle.rh_words.specs.declared.reason.Reason.TheVariants as reasons
 use Rattle.rh_injector.specs.declared.fault_text.FaultLine.{FaultLine}
 use Rattle.rh_injector.specs.declared.faults.Strike.{Strike}
 use Rattle.rh_injector.specs.Faults.{IsAscending}
-use Rattle.rh_rules.specs.declared.node.Kind.{Kind}
-use Rattle.rh_rules.specs.declared.node.Kind.TheVariants.{Task, Group, Scope}
 use Rattle.rh_rules.specs.declared.node.Node.{Node}
 use Rattle.rh_rules.specs.declared.node.PlannedPromise.{PlannedPromise}
-use Rattle.rh_rules.specs.Lawful.{local_lens, local_names}
+use Rattle.rh_rules.specs.Lawful.{is_task, local_lens, local_names}
 use Rattle.rh_rules.specs.Tables.{if_any}
 use Rattle.rh_plan.specs.Plans.{PlanData, shapes_in}
 use Rattle.rh_plan.specs.Judging.{attempts_of}
-
-abbrev pub is_task : Kind → Bool
-is_task Task = true
-is_task Group = false
-is_task Scope = false
 
 -- the number of the task of a name, among these nodes and in a plan
 abbrev pub task_among : List Node → List ℕ → Option ℕ

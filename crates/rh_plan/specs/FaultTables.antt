@@ -1,8 +1,8 @@
--- What the code that finds the faults of a text keeps: tasks by name in one ordered map, and the faults of the lines so far.
+-- What the code that finds the faults of a text keeps: tasks by name in one map, and the faults of the lines so far.
 use Rattle.std.specs.Prelude.{ℕ, ◌≡◌, ◌<◌, ◌≤◌, ◌&&◌, List, [], ◌∷◌, true, Option, Some, None, map, take, cond, sum, slice_index, slice_index_or, IsPermutation, ⊤, ◌⊎◌, false, is_none, nat_le, unwrap_or}
-use Rattle.std.specs.BTreeMap.{BTreeMap, get, is_at}
+use Rattle.std.specs.HashMap.{HashMap, get}
 use Rattle.rh_words.specs.Naming.{is_name}
-use Rattle.rh_words.specs.NameKeys.{name_key}
+use Rattle.rh_words.specs.NameKeys.{name_key, keys_eq}
 use Rattle.rh_words.specs.declared.limits.TheConstants.{MAX_PROMISE_WORDS}
 use Rattle.rh_words.specs.declared.reason.Reason.{Reason}
 use Rattle.rh_words.specs.declared.reason.Reason.TheVariants.{FaultTwice, Attempt, Local, BadWord, ZeroMask}
@@ -16,24 +16,23 @@ use Rattle.rh_rules.specs.declared.node.Node.{Node}
 use Rattle.rh_rules.specs.declared.node.PlannedPromise.{PlannedPromise}
 use Rattle.rh_rules.specs.declared.shape.Shape.{Shape}
 use Rattle.rh_rules.specs.Bodies.{lens_at}
-use Rattle.rh_rules.specs.Lawful.{local_lens}
+use Rattle.rh_rules.specs.Lawful.{is_task, local_lens}
 use Rattle.rh_rules.specs.Tables.{if_any}
-use Rattle.rh_planner.specs.Declarations.{key_cmp}
 use Rattle.rh_plan.specs.Plans.{PlanData}
 use Rattle.rh_plan.specs.Judging.{attempts_of}
-use Rattle.rh_plan.specs.FaultLines.{local_number, is_zero_mask, is_task, task_among, reason_at, strike_of, fault_reason}
+use Rattle.rh_plan.specs.FaultLines.{local_number, is_zero_mask, task_among, reason_at, strike_of, fault_reason}
 
 -- the number that the map has at a name
-abbrev pub number_known : BTreeMap NameKey ℕ → List ℕ → Option ℕ
-number_known known name = get key_cmp known (name_key name)
+abbrev pub number_known : {S : Type 0} → HashMap NameKey ℕ S → List ℕ → Option ℕ
+number_known known name = get keys_eq known (name_key name)
 
 -- the map has this node too with this number, where it is a task
-abbrev pub IsTaskNoted : BTreeMap NameKey ℕ → BTreeMap NameKey ℕ → Node → ℕ → Type 0
+abbrev pub IsTaskNoted : {S : Type 0} → HashMap NameKey ℕ S → HashMap NameKey ℕ S → Node → ℕ → Type 0
 IsTaskNoted old new node number =
-    (name : List ℕ) → number_known new name ≡ cond (is_task node.kind && is_at (key_cmp (name_key node.name)) (name_key name)) (Some number) (number_known old name)
+    (name : List ℕ) → number_known new name ≡ cond (is_task node.kind && keys_eq (name_key node.name) (name_key name)) (Some number) (number_known old name)
 
 -- the map has the tasks among these nodes, each by its place
-abbrev pub AreTasksNumbered : BTreeMap NameKey ℕ → List Node → Type 0
+abbrev pub AreTasksNumbered : {S : Type 0} → HashMap NameKey ℕ S → List Node → Type 0
 AreTasksNumbered known nodes = (name : List ℕ) → is_name name ≡ true → number_known known name ≡ task_among nodes name
 
 -- the name of the promise of this number

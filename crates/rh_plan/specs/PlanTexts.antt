@@ -2,6 +2,7 @@
 -- matrices and locals.
 use Rattle.std.specs.Prelude.{ℕ, ◌≡◌, ◌+◌, List, [], ◌∷◌, ◌++◌, ⊤, Option, Some, None, Bool, true, false, map, length, filter, slice_get, IsSomeAnd, ◌<◌, not, take}
 use Rattle.std.specs.List.{flat_map, range_with_len}
+use Rattle.rh_rules.specs.declared.node.TheConstants.{SCOPE_WORDS}
 use Rattle.rh_task_text.specs.declared.statement.Statement.{Statement}
 use Rattle.rh_task_text.specs.declared.statement.Statement.TheVariants as text
 use Rattle.rh_task_text.specs.declared.statement.SchemeText.{SchemeText}
@@ -345,7 +346,7 @@ is_declaration (text.CheckUser promise check) = false
 -- The line declares the promise: as many words as a `promise` line says, three words for a scope's own.
 abbrev pub Declares : Statement → PlannedPromise → Type 0
 Declares (text.Promise name len temp) p = (p.name ≡ name) × (p.len ≡ len) × (p.temp ≡ temp) × (p.scope ≡ false)
-Declares (text.Finish name) p = (p.name ≡ name) × (p.len ≡ 3) × (p.temp ≡ false) × (p.scope ≡ true)
+Declares (text.Finish name) p = (p.name ≡ name) × (p.len ≡ SCOPE_WORDS) × (p.temp ≡ false) × (p.scope ≡ true)
 Declares s p = ⊥
 
 -- the lines declare the promises, one by one

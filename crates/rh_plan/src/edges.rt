@@ -1,6 +1,7 @@
 //! The edges of a plan, made from its nodes and promises.
 
 ghost use Rattle.std.specs.Prelude.{◌≡◌, ◌++◌, ◌≤◌, length, map, IfOk, OnOk};
+ghost use Rattle.rh_words.specs.declared.limits.TheConstants.{MAX_NODES};
 ghost use Rattle.rh_rules.specs.Lawful.{putter_of};
 ghost use Rattle.rh_plan.specs.Plans.{await_edge, order_edge, edges_into, edges_from};
 
@@ -16,7 +17,7 @@ pub fn edges_of(
     promises: &[PlannedPromise],
     nodes: &[Node],
 ) -> Result<Vec<Edge>, OutOfMemory>
-    requires { length nodes.now ≤ 16384 }
+    requires { length nodes.now ≤ MAX_NODES }
     ensures { IfOk result (λ edges. edges.items ≡ edges_from promises.now 0 nodes.now) }
 {
     let mut edges = Vec::with_capacity(alloc, edge_count(nodes))?;

@@ -1,6 +1,7 @@
 //! What a plan keeps in tables, beside its lists.
 
 ghost use Rattle.std.specs.Prelude.{◌≤◌, ◌<◌, ◌^◌, length, map, IfOk};
+ghost use Rattle.rh_words.specs.declared.limits.TheConstants.{MAX_NODES};
 ghost use Rattle.std.specs.List.{AllByRecursion};
 ghost use Rattle.rh_plan.specs.Grouping.{IsGrouping};
 ghost use Rattle.rh_plan.specs.Lawful.{IsForward};
@@ -31,7 +32,7 @@ pub fn tables_of(
     edges: &[Edge],
     n: usize,
 ) -> Result<Tables, OutOfMemory>
-    requires small { n ≤ 16384 }
+    requires small { n ≤ MAX_NODES }
     requires few { length edges.now < 2 ^ 32 }
     requires forward { AllByRecursion (IsForward n) edges.now }
     ensures { IfOk result (AreTables promises.now edges.now n) }
@@ -50,7 +51,7 @@ pub fn tables_of(
 
 /// The numbers of the edges, grouped by the nodes to which they go.
 fn by_target(alloc: Global, edges: &[Edge], n: usize) -> Result<Groups, OutOfMemory>
-    requires small { n ≤ 16384 }
+    requires small { n ≤ MAX_NODES }
     requires few { length edges.now < 2 ^ 32 }
     requires forward { AllByRecursion (IsForward n) edges.now }
     ensures { IfOk result (IsGrouping (map (λ e. e.to) edges.now) n) }
@@ -61,7 +62,7 @@ fn by_target(alloc: Global, edges: &[Edge], n: usize) -> Result<Groups, OutOfMem
 
 /// The numbers of the edges, grouped by the nodes from which they come.
 fn by_source(alloc: Global, edges: &[Edge], n: usize) -> Result<Groups, OutOfMemory>
-    requires small { n ≤ 16384 }
+    requires small { n ≤ MAX_NODES }
     requires few { length edges.now < 2 ^ 32 }
     requires forward { AllByRecursion (IsForward n) edges.now }
     ensures { IfOk result (IsGrouping (map (λ e. e.from) edges.now) n) }

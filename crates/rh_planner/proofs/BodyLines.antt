@@ -18,10 +18,10 @@ use Rattle.rh_rules.specs.Tables.{LocalName, local, Putting, putting, given, is_
 use Rattle.rh_rules.specs.Bodies.{AreSoundSteps, IsSoundStep, let_len, with_len, lens_at, lens_after, put_at, drop_at, promises_put, drops_of}
 use Rattle.rh_rules.specs.Lawful.{promise_lens, putter_of, IsAmong}
 use Rattle.rh_rules.specs.Above.{Facts}
-use Rattle.rh_planner.proofs.Stepping.{promises_put_push}
+use Rattle.rh_tables.proofs.Stepping.{promises_put_push}
 use Rattle.rh_planner.proofs.DeclaredPromises.{IsDeclaredAs, putter_at, scope_at, same_name, name_is, one_place}
 use Rattle.rh_planner.proofs.PutPromises.{stays_given, all_given, put_grows, put_new, put_split, given_other, unput_given}
-use Rattle.rh_planner.proofs.SoundTasks.{IsShort, IsSoundTask, scope_of, lens_here, awaited_within, locals_grown, task_grown, steps_push, lens_after_push, all_map, all_append}
+use Rattle.rh_tables.proofs.SoundTasks.{IsShort, IsSoundTask, scope_of, lens_here, awaited_within, locals_grown, task_grown, steps_push, lens_after_push, all_map, all_append}
 use Rattle.rh_planner.proofs.SoundFacts.{AreNamed, AreSound, IsSoundPromise, scope_names, node_grown, blocks_kept, distinct_push, among_last, among_more}
 use Rattle.rh_rules.specs.Kept.{KeptCheck}
 use Rattle.rh_rules.specs.Rules.{may_check}

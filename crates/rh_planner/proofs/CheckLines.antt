@@ -19,7 +19,7 @@ use Rattle.rh_rules.specs.Facets.{facets}
 use Rattle.rh_rules.specs.Bodies.{promises_put}
 use Rattle.rh_rules.specs.Above.{Look, Facts, checks_by, check_of, spec_asked, asked_place, matrix_used, shape_used, lens_read, with_row}
 use Rattle.rh_rules.specs.Rules.{reason_in, is_put_here, is_await, is_dropped, may_check, is_second_product, is_unanswered}
-use Rattle.rh_planner.specs.Making.{check_reason, numbers_read, names_no_matrix}
+use Rattle.rh_tables.specs.Making.{check_reason, numbers_read, names_no_matrix}
 use Rattle.rh_planner.specs.Planned.{look_above}
 use Rattle.rh_planner.specs.Following.{after}
 use Rattle.rh_planner.proofs.After.{no_row}

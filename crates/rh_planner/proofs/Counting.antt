@@ -42,7 +42,7 @@ use Rattle.rh_task_text.specs.Forms.{form}
 use Rattle.rh_task_text.specs.Statements.{kind_of}
 use Rattle.std.specs.Prelude.{◌==◌, nat_lt}
 use Rattle.rh_planner.proofs.Keeping.{Keeps, keeps}
-use Rattle.rh_planner.proofs.Using.{neither}
+use Rattle.rh_tables.proofs.Using.{neither}
 use Rattle.rh_planner.proofs.RulesKept.{Rules, rules}
 use Rattle.rh_rules.specs.Kept.{KeptCheck}
 use Rattle.rh_planner.proofs.Grammar.{within}

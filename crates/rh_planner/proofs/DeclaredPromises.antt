@@ -12,7 +12,7 @@ use Rattle.std.proofs.lemmas.Map.Keys.{IsDistinct-head, IsDistinct-tail}
 use Rattle.rh_rules.specs.declared.node.PlannedPromise.{PlannedPromise}
 use Rattle.rh_rules.specs.Tables.{promise_at, promise_named, is_promise, promise_number, promise_len, is_put, is_own, if_any, declared_promise}
 use Rattle.rh_rules.specs.Lawful.{promise_lens, putter_of}
-use Rattle.rh_planner.proofs.SoundTasks.{scope_of}
+use Rattle.rh_tables.proofs.SoundTasks.{scope_of}
 
 pub some_of : {X : Type 0} (o : Option X) → is_some o ≡ true → (x : X) × (o ≡ Some x)
 some_of None e = absurd (false≢true e)

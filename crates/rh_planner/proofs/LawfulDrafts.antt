@@ -31,12 +31,12 @@ use Rattle.rh_rules.specs.Lawful.{AreLawful, IsLawfulNode, IsLawfulPromise, IsEn
 use Rattle.rh_planner.specs.Planned.{look_above, IsDraftOf}
 use Rattle.rh_planner.specs.Sound.{IsIdle, IsIdleIn, nodes_open, AreCounted, IsPlannedScheme, shapes_named, AreClosed, AreShaped}
 use Rattle.rh_planner.proofs.OpenBlocks.{none_closed}
-use Rattle.rh_planner.proofs.Members.{members_below, members_once}
+use Rattle.rh_tables.proofs.Members.{members_below, members_once}
 use Rattle.rh_planner.proofs.DeclaredPromises.{all_at, putter_at, scope_at}
 use Rattle.rh_check.specs.Users.{HandedChecks, ArePaired}
 use Rattle.rh_planner.proofs.Wholes.{facts_next}
 use Rattle.rh_planner.proofs.Counting.{counted}
-use Rattle.rh_planner.proofs.SoundTasks.{scope_of, some_is, some_parts, all_map}
+use Rattle.rh_tables.proofs.SoundTasks.{scope_of, some_is, some_parts, all_map}
 use Rattle.rh_planner.proofs.SoundFacts.{AreSound, IsSoundPromise, IsSoundNode, a_task, a_group, a_scope, IsTaskNode, IsGroupNode, IsScopeNode, block_names, scope_names, idle_task, no_names, no_numbers, distinct_push}
 use Rattle.rh_planner.proofs.LocalNames.{no_locals}
 use Rattle.rh_planner.proofs.SoundLines.{sound_next}

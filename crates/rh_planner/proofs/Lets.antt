@@ -14,10 +14,10 @@ use Rattle.rh_rules.specs.Facets.{facets}
 use Rattle.rh_rules.specs.Above.{Look, Facts, matrix_used, numbers_used, local_made, with_row}
 use Rattle.rh_rules.specs.Rules.{reason_in}
 use Rattle.rh_planner.specs.declared.planner.Planner.{Planner}
-use Rattle.rh_planner.specs.declared.open_task.OpenTask.{OpenTask}
+use Rattle.rh_tables.specs.declared.open_task.OpenTask.{OpenTask}
 use Rattle.rh_planner.specs.Planned.{look_above}
 use Rattle.rh_planner.specs.States.{HasFacts, Judges, facts_of}
-use Rattle.rh_planner.specs.Making.{let_reason}
+use Rattle.rh_tables.specs.Making.{let_reason}
 use Rattle.rh_planner.specs.Following.{after}
 use Rattle.rh_planner.proofs.After.{no_row}
 

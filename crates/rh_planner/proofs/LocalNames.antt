@@ -15,10 +15,10 @@ use Rattle.rh_rules.specs.Tables.{LocalName, local, is_among, is_local, is_promi
 use Rattle.rh_rules.specs.Lawful.{promise_lens, putter_of, names_at}
 use Rattle.rh_rules.specs.Rules.{are_distinct}
 use Rattle.rh_rules.specs.Above.{await_local, lets_of}
-use Rattle.rh_planner.proofs.FirstPlaces.{is_some_position}
-use Rattle.rh_planner.proofs.Using.{neither}
+use Rattle.rh_tables.proofs.FirstPlaces.{is_some_position}
+use Rattle.rh_tables.proofs.Using.{neither}
 use Rattle.rh_planner.proofs.DeclaredPromises.{declared, mapped_at, name_is, same_name}
-use Rattle.rh_planner.proofs.SoundTasks.{Grows, all_append, awaited_within}
+use Rattle.rh_tables.proofs.SoundTasks.{Grows, all_append, awaited_within}
 
 abbrev pub name_of : LocalName → List ℕ
 name_of t = t.name

@@ -29,10 +29,10 @@ use Rattle.rh_rules.specs.Facets.{facets}
 use Rattle.rh_planner.specs.Sound.{AreCounted}
 use Rattle.rh_planner.proofs.After.{with_promise, with_matrix, with_begun, with_finish, with_closed, ended_task, with_end}
 use Rattle.rh_planner.proofs.OpenBlocks.{with_none}
-use Rattle.rh_planner.proofs.Using.{neither}
+use Rattle.rh_tables.proofs.Using.{neither}
 use Rattle.rh_planner.proofs.DeclaredPromises.{putter_parts, putter_at, scope_parts, scope_at, name_is, slice_get_append}
 use Rattle.rh_planner.proofs.SoundChecks.{check_grown}
-use Rattle.rh_planner.proofs.SoundTasks.{IsShort, Grows, all_map, locals_grown, task_grown, all_append, some_and, some_is}
+use Rattle.rh_tables.proofs.SoundTasks.{IsShort, Grows, all_map, locals_grown, task_grown, all_append, some_and, some_is}
 use Rattle.rh_planner.proofs.SoundFacts.{AreNamed, AreSound, IsSoundPromise, IsSoundNode, a_task, IsTaskNode, IsSoundBlock, IsOpenScope, block_names, scope_names, named_kept, named_push, named_insert, node_grown, enclosed_grown, enclosed_next, blocks_grown, blocks_kept, idle_task, slice_get_last, slice_get_push_cases}
 use Rattle.rh_planner.proofs.LocalNames.{no_locals, all_counted, locals_named_grown}
 

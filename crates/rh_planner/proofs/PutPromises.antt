@@ -7,7 +7,7 @@ use Rattle.std.proofs.lemmas.Option.{none-some, same_Some}
 use Rattle.rh_rules.specs.declared.node.PlannedPromise.{PlannedPromise}
 use Rattle.rh_rules.specs.Tables.{Putting, or_else, given}
 use Rattle.rh_rules.specs.Lawful.{promise_lens, putter_of}
-use Rattle.rh_planner.proofs.SoundTasks.{Grows}
+use Rattle.rh_tables.proofs.SoundTasks.{Grows}
 use Rattle.rh_planner.proofs.DeclaredPromises.{mapped_at, mapped_from, putter_parts, putter_at, scope_at, scope_parts}
 
 -- what does not speak of the putter stays

@@ -14,7 +14,7 @@ use Rattle.rh_rules.specs.Tables.{if_any, putting, promise_at, promise_named, is
 use Rattle.rh_rules.specs.Facets.{facets}
 use Rattle.rh_rules.specs.Above.{Look, Facts, shape_used, numbers_used, lens_used, put_step, with_row}
 use Rattle.rh_rules.specs.Rules.{reason_in}
-use Rattle.rh_planner.specs.Making.{put_reason, uses_unknown, uses_dropped}
+use Rattle.rh_tables.specs.Making.{put_reason, uses_unknown, uses_dropped}
 use Rattle.rh_rules.specs.Tables.{put_all}
 use Rattle.rh_planner.specs.Following.{after}
 use Rattle.rh_planner.proofs.After.{no_row}

@@ -9,7 +9,7 @@ use Rattle.rh_rules.specs.Facets.{facets}
 use Rattle.rh_rules.specs.Above.{Facts, shape_used, lens_used, lens_read, made_len}
 use Rattle.rh_rules.specs.Rules.{are_distinct, is_await, is_dropped, is_put_here, is_node_line, is_promise_over, is_bad_scheme, may_check, is_second_product, ends_uncorrected}
 use Rattle.rh_planner.specs.Planned.{look_above}
-use Rattle.rh_planner.proofs.Using.{not_false, neither}
+use Rattle.rh_tables.proofs.Using.{not_false, neither}
 use Rattle.rh_planner.proofs.Keeping.{Keeps}
 
 -- the line keeps each rule

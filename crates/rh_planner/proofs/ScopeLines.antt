@@ -18,10 +18,10 @@ use Rattle.rh_rules.specs.Bodies.{promises_put}
 use Rattle.rh_rules.specs.Lawful.{promise_lens, IsAmong}
 use Rattle.rh_rules.specs.Above.{Facts, group_in, scope_node}
 use Rattle.rh_planner.proofs.After.{ended_scope, with_scope_end}
-use Rattle.rh_planner.proofs.FirstPlaces.{is_some_position}
+use Rattle.rh_tables.proofs.FirstPlaces.{is_some_position}
 use Rattle.rh_planner.proofs.DeclaredPromises.{IsDeclaredAs, declared, same_name, name_is, one_place, scope_at, slice_get_append}
 use Rattle.rh_planner.proofs.PutPromises.{stays_given, all_given, put_grows, put_new, put_split, given_other, unput_given, unput_apart}
-use Rattle.rh_planner.proofs.SoundTasks.{some_and, some_is}
+use Rattle.rh_tables.proofs.SoundTasks.{some_and, some_is}
 use Rattle.rh_planner.proofs.SoundFacts.{AreNamed, AreSound, IsSoundPromise, IsSoundNode, a_scope, IsScopeNode, IsSoundBlock, IsOpenScope, block_names, scope_names, node_grown, blocks_grown, blocks_kept, idle_task, among_last, slice_get_last, slice_get_push_cases}
 use Rattle.rh_planner.proofs.LocalNames.{no_locals}
 use Rattle.rh_planner.proofs.PromiseLines.{names_ended, enclosed_more}

@@ -23,8 +23,8 @@ use Rattle.rh_rules.specs.Bodies.{HasWords, AreHalos, lens_at, promises_put}
 use Rattle.rh_rules.specs.Lawful.{promise_lens, putter_of, IsAmong, IsFittingSpec}
 use Rattle.rh_rules.specs.Above.{Facts, check_of, spec_asked, shape_used, lens_read}
 use Rattle.rh_rules.specs.Rules.{is_put_here, is_among_first, is_await, is_unanswered}
-use Rattle.rh_planner.proofs.Using.{neither, not_false}
-use Rattle.rh_planner.proofs.SoundTasks.{IsShort, Grows, putter_within, inputs_grown, some_is}
+use Rattle.rh_tables.proofs.Using.{neither, not_false}
+use Rattle.rh_tables.proofs.SoundTasks.{IsShort, Grows, putter_within, inputs_grown, some_is}
 use Rattle.rh_planner.proofs.SoundLets.{short_at, sides_fit, AreFirstShapes, matrix_there}
 
 -- the check judges one of these puts and reads some of these awaits, by their lengths

@@ -10,6 +10,7 @@ use Rattle.std.proofs.lemmas.Option.{none-some, same_Some, slice_get_within}
 use Rattle.std.proofs.lemmas.List.{get_or_append_left}
 use Rattle.std.proofs.lemmas.List.Folds.{list_any-append}
 use Rattle.std.proofs.lemmas.Map.Keys.{IsDistinct-push}
+use Rattle.rh_rules.specs.declared.node.TheConstants.{SCOPE_WORDS}
 use Rattle.rh_words.specs.Naming.{is_name}
 use Rattle.rh_rules.specs.declared.shape.Shape.{Shape}
 use Rattle.rh_rules.specs.declared.body.Step.{Step}
@@ -22,9 +23,9 @@ use Rattle.rh_rules.specs.Lawful.{promise_lens, putter_of, IsAmong, IsEnclosedBe
 use Rattle.rh_rules.specs.declared.block.OpenBlock.{OpenBlock}
 use Rattle.rh_rules.specs.declared.block.OpenBlock.TheVariants.{TaskBlock, MatrixBlock, GroupBlock, ScopeBlock}
 use Rattle.rh_rules.specs.Above.{Facts, words_in, shown_in, task_node, group_node, scope_node, group_in}
-use Rattle.rh_planner.proofs.Using.{neither}
+use Rattle.rh_tables.proofs.Using.{neither}
 use Rattle.rh_planner.proofs.DeclaredPromises.{same_name, name_is, slice_get_append}
-use Rattle.rh_planner.proofs.SoundTasks.{IsShort, IsSoundTask, Grows, scope_of, lens_here, locals_grown, task_grown, all_map, all_append, some_and, some_parts}
+use Rattle.rh_tables.proofs.SoundTasks.{IsShort, IsSoundTask, Grows, scope_of, lens_here, locals_grown, task_grown, all_map, all_append, some_and, some_parts}
 use Rattle.rh_rules.specs.Rules.{may_check, is_corrected}
 use Rattle.rh_planner.specs.Sound.{IsPlannedScheme}
 use Rattle.rh_planner.proofs.SoundChecks.{IsSoundCheck, check_grown}
@@ -105,7 +106,7 @@ pub record IsOpenScope (ps : List PlannedPromise) (name : List ℕ) : Type 0 whe
   pub is : own.name ≡ name
   pub scope : own.scope ≡ true
   pub unput : own.putter ≡ None
-  pub len : own.len ≡ 3
+  pub len : own.len ≡ SCOPE_WORDS
 
 -- an open block: a group is a node above
 abbrev pub IsSoundBlock : List Node → List PlannedPromise → OpenBlock → Type 0

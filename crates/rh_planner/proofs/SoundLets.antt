@@ -22,8 +22,8 @@ use Rattle.rh_rules.specs.Limits.{IsWithinLimits}
 use Rattle.rh_rules.specs.Bodies.{IsThere, IsSoundStep, let_len, put_at, drop_at}
 use Rattle.rh_rules.specs.Above.{matrix_used, shape_used, numbers_used, lens_used, made_len}
 use Rattle.rh_planner.specs.Sound.{shapes_named}
-use Rattle.rh_planner.proofs.Using.{not_false, neither}
-use Rattle.rh_planner.proofs.SoundTasks.{IsShort, some_is}
+use Rattle.rh_tables.proofs.Using.{not_false, neither}
+use Rattle.rh_tables.proofs.SoundTasks.{IsShort, some_is}
 use Rattle.rh_planner.proofs.DeclaredPromises.{some_of, all_at, mapped_at, slice_get_append}
 
 -- the number of a local that is there

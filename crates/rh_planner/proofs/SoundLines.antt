@@ -30,7 +30,7 @@ use Rattle.rh_rules.specs.Rules.{reason_in, is_await, is_dropped, is_put_here, m
 use Rattle.rh_planner.specs.Planned.{look_above}
 use Rattle.rh_planner.specs.Following.{after}
 use Rattle.rh_planner.specs.Sound.{IsIdle, IsIdleIn, AreCounted, shapes_named}
-use Rattle.rh_planner.proofs.Using.{not_false, neither}
+use Rattle.rh_tables.proofs.Using.{not_false, neither}
 use Rattle.rh_planner.proofs.Keeping.{keeps}
 use Rattle.rh_planner.proofs.Views.{IsLet, View, as_promise, as_matrix, as_row, as_task, as_finish, as_group, as_end, as_let, as_put, as_drop, view, IsCheck, as_check}
 use Rattle.rh_planner.proofs.After.{with_promise, after_promise, with_matrix, after_matrix, after_row, after_end_matrix, with_task, after_task, with_finish, after_finish, with_group, after_group, after_end, after_end_group, after_end_scope, with_drop, after_drop}
@@ -43,7 +43,7 @@ use Rattle.rh_planner.proofs.Counting.{task_outside, check_added, one_check}
 use Rattle.rh_planner.proofs.Grammar.{within}
 use Rattle.rh_planner.proofs.RulesKept.{Rules, rules}
 use Rattle.rh_planner.proofs.DeclaredPromises.{none_of, declared}
-use Rattle.rh_planner.proofs.SoundTasks.{IsShort, lens_begin}
+use Rattle.rh_tables.proofs.SoundTasks.{IsShort, lens_begin}
 use Rattle.rh_planner.proofs.SoundLets.{IsKnown, all_known, AreFirstShapes, let_sound}
 use Rattle.rh_planner.proofs.SoundFacts.{AreSound}
 use Rattle.rh_planner.proofs.PromiseLines.{sound_promise, sound_matrix, sound_row, sound_finish, sound_end_matrix, sound_end, sound_end_group}

@@ -20,9 +20,9 @@ use Rattle.rh_rules.specs.Lawful.{promise_lens, putter_of, IsAmong}
 use Rattle.rh_rules.specs.Above.{Facts, await_local}
 use Rattle.rh_rules.specs.Rules.{are_distinct}
 use Rattle.rh_planner.proofs.After.{with_task, with_group, group_in_facts}
-use Rattle.rh_planner.proofs.Using.{neither, not_false}
+use Rattle.rh_tables.proofs.Using.{neither, not_false}
 use Rattle.rh_planner.proofs.DeclaredPromises.{some_of, all_at, name_is, putter_at, declared, slice_get_append}
-use Rattle.rh_planner.proofs.SoundTasks.{IsShort, some_and, some_is, some_parts}
+use Rattle.rh_tables.proofs.SoundTasks.{IsShort, some_and, some_is, some_parts}
 use Rattle.rh_planner.proofs.SoundFacts.{AreNamed, AreSound, IsSoundPromise, IsSoundNode, a_group, IsGroupNode, IsPutBy, block_names, named_kept, named_insert, blocks_grown, idle_task, no_numbers, slice_get_last, slice_get_push_cases}
 use Rattle.rh_planner.proofs.PromiseLines.{enclosed_more}
 use Rattle.rh_planner.proofs.LocalNames.{no_locals, locals_opened}

@@ -14,7 +14,7 @@ use Rattle.rh_check.specs.Users.{HandedChecks}
 use Rattle.rh_rules.specs.Facets.{facets}
 use Rattle.rh_rules.specs.Above.{Facts}
 use Rattle.rh_rules.specs.Rules.{reason_in}
-use Rattle.rh_planner.specs.Making.{start_reason}
+use Rattle.rh_tables.specs.Making.{start_reason}
 use Rattle.rh_planner.specs.Planned.{look_above}
 
 or_false : (b : Bool) → (b || false) ≡ b

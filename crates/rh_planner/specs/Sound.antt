@@ -1,6 +1,6 @@
 -- What holds of the facts above a line where all lines above keep the rules and the grammar.
 use Rattle.std.specs.Prelude.{ℕ, ◌≡◌, ◌≤◌, ◌+◌, List, [], ◌∷◌, ◌++◌, true, Option, Some, None, ⊤, length, map}
-use Rattle.rh_words.specs.declared.limits.TheConstants.{MAX_NODES, MAX_AWAITS, MAX_MATRICES}
+use Rattle.rh_words.specs.declared.limits.TheConstants.{MAX_NODES, MAX_AWAITS, MAX_MATRICES, MAX_REPLAYS}
 use Rattle.rh_task_text.specs.declared.statement.Statement.{Statement}
 use Rattle.rh_task_text.specs.declared.form.Block.{Block}
 use Rattle.rh_task_text.specs.declared.form.Block.TheVariants as text
@@ -84,7 +84,7 @@ AreShaped (Some text.ScopeBlock) count f = AreClosed f
 abbrev pub IsPlannedScheme : Scheme → Type 0
 IsPlannedScheme Plain = ⊤
 IsPlannedScheme Replicate = ⊤
-IsPlannedScheme (Replay limit) = (1 ≤ limit) × (limit ≤ 8)
+IsPlannedScheme (Replay limit) = (1 ≤ limit) × (limit ≤ MAX_REPLAYS)
 IsPlannedScheme Abft = ⊤
 
 -- Facts are counted: there is room for the node of the open task, the locals are the awaits and the results of `let` lines, and there are no

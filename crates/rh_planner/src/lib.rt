@@ -1,21 +1,13 @@
 //! Planning: the statements of a text as nodes, promises and matrices, line by line.
 //! The one contract is that of `drafts`: a text is planned as its nodes, promises and matrices, which are lawful, or refused at its
-//! first statement that breaks a rule, with the first reason that holds there. It stands on the definitions of rh_rules.
+//! first statement that breaks a rule, with the first reason that holds there. It stands on the definitions of rh_rules
+//! and the tables of rh_tables.
 #![tactic(auto)]
 
-mod awaiting;
-mod blocks;
-mod declarations;
-mod handed;
 mod laws;
-mod map_key;
-mod matrices;
-mod node;
-mod open_task;
 mod planned;
 mod planner;
 mod planning;
-mod used;
 
 pub use laws::{
     a_text_has_one_first_break, a_text_is_planned_in_one_way,

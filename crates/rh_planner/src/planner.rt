@@ -9,34 +9,28 @@ ghost use Rattle.rh_rules.specs.declared.node.Scheme.TheVariants.{Plain};
 ghost use Rattle.rh_rules.specs.Above.{facts_above, planned_scheme, asked_place, group_in, lets_of, task_node, scope_node};
 ghost use Rattle.rh_rules.specs.Rules.{is_bad_scheme, is_unanswered};
 ghost use Rattle.rh_rules.specs.Tables.{is_promise, promise_number, is_put, putting, put_all};
-ghost use Rattle.rh_planner.specs.Declarations.{declarations};
-ghost use Rattle.rh_planner.specs.Making.{start_reason};
+ghost use Rattle.rh_tables.specs.Declarations.{declarations};
+ghost use Rattle.rh_tables.specs.Making.{start_reason};
 ghost use Rattle.rh_planner.specs.Planned.{look_above};
 ghost use Rattle.std.specs.List.{list_any, AllByRecursion};
 ghost use Rattle.rh_planner.specs.States.{HasFacts, HasRoom, IsClosable, Judges, TakesRow};
 
-use crate::awaiting::{are_distinct, await_locals, find_promises, is_any_unput};
-use crate::blocks::Blocks;
-use crate::declarations::Declared;
-use crate::handed::Handed;
-use crate::matrices::{add_row, close_matrix};
-use crate::node::{group_node, lets_of, scope_node, task_node};
-use crate::open_task::OpenTask;
 use crate::planned::Drafts;
 use rh_check::Matrices;
 use rh_rules::{
-    Body, CheckList, NamedShape, Node, Numbers, OpenBlock, PlannedCheck, Scheme, Shape, Step,
-    asked, made, place_of, spec_of,
+    Body, CheckList, NamedShape, Node, Numbers, OpenBlock, PlannedCheck, SCOPE_WORDS, Scheme,
+    Shape, Step, asked, made, place_of, spec_of,
 };
 use rh_sparse::{Cell, Matrix};
+use rh_tables::{
+    Blocks, Declared, Handed, OpenTask, add_row, are_distinct, await_locals, close_matrix,
+    find_promises, group_node, is_any_unput, lets_of, scope_node, task_node,
+};
 use rh_task_text::{SchemeText, Statement};
-use rh_words::limits::{MAX_MATRICES, MAX_NODES};
+use rh_words::limits::{MAX_MATRICES, MAX_NODES, MAX_REPLAYS};
 use rh_words::{Name, NameList, OutOfMemory, Reason, Words};
 use std::alloc::Global;
 use std::mem;
-
-/// How many words the own promise of a scope has: the numbers of its accepted, failed and skipped tasks.
-const SCOPE_WORDS: u32 = 3;
 
 /// What is planned of the statements so far.
 #[derive(Drop)]
@@ -207,7 +201,7 @@ impl Planner {
 
     /// Declares a task of this name and scheme, or a group as if it were plain, that awaits these, or says why it is refused. The open
     /// task then has the numbers of what it awaits.
-    #[tactic(auto, using(crate::proofs::Using::is_put_numbers))]
+    #[tactic(auto, using(rh_tables::proofs::Using::is_put_numbers))]
     fn start(
         &mut self,
         alloc: Global,
@@ -489,7 +483,7 @@ fn is_bad_scheme(scheme: SchemeText) -> bool
     ensures { result ≡ is_bad_scheme scheme }
 {
     match scheme {
-        SchemeText::Replay { limit } => limit == 0 || limit > 8,
+        SchemeText::Replay { limit } => limit == 0 || limit > MAX_REPLAYS,
         SchemeText::Plain | SchemeText::Replicate | SchemeText::Abft => false,
     }
 }

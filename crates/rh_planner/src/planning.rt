@@ -11,10 +11,10 @@ ghost use Rattle.rh_task_text.specs.Program.{upward, IsLawfulText};
 ghost use Rattle.rh_planner.specs.Planned.{look_above, IsDraftOf, FirstBreak};
 ghost use Rattle.rh_planner.specs.States.{HasFacts};
 
-use crate::handed::Handed;
 use crate::planned::Drafts;
 use crate::planner::Planner;
 use rh_check::Checks;
+use rh_tables::Handed;
 use rh_task_text::{Text, lawful_texts_keep_their_limits};
 use rh_words::{Fault, Refusal};
 use std::alloc::Global;

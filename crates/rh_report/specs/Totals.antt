@@ -4,18 +4,12 @@ use Rattle.std.specs.List.{range_with_len}
 use Rattle.std.specs.Fmt.{decimal}
 use Rattle.rh_injector.specs.declared.faults.Strike.{Strike}
 use Rattle.rh_rules.specs.declared.node.Node.{Node}
-use Rattle.rh_rules.specs.declared.node.Kind.{Kind}
-use Rattle.rh_rules.specs.declared.node.Kind.TheVariants.{Task, Group, Scope}
+use Rattle.rh_rules.specs.Lawful.{is_task}
 use Rattle.rh_plan.specs.declared.outcome.Trial.{Trial}
 use Rattle.rh_plan.specs.Plans.{PlanData}
 use Rattle.rh_plan.specs.Results.{is_accepted, is_failed, is_skipped}
 use Rattle.rh_report.specs.Tables.{TableData}
 use Rattle.rh_report.specs.PromiseLines.{is_declared_at}
-
-abbrev pub is_task : Kind → Bool
-is_task Task = true
-is_task Group = false
-is_task Scope = false
 
 abbrev pub is_task_node : Option Node → Bool
 is_task_node None = false

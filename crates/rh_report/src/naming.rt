@@ -1,27 +1,10 @@
 //! Pieces that several lines have.
 
 ghost use Rattle.std.specs.Prelude.{◌≡◌, ◌++◌, OnOk};
-ghost use Rattle.std.specs.Fmt.{decimal};
 ghost use Rattle.rh_report.specs.Naming.{cause_name, node_name, promise_name};
 
 use rh_plan::{Cause, Plan};
-use rh_words::{Bytes, OutOfMemory, print_number};
-use std::alloc::Global;
-
-/// Appends a label and a number.
-#[tactic(auto, using(std::proofs::Common::append_assoc))]
-pub(crate) fn print_labelled(
-    alloc: Global,
-    label: &[u8],
-    number: u64,
-    into: &mut Bytes,
-) -> Result<(), OutOfMemory>
-    ensures { OnOk result (into.new ≡ into.old ++ (label.now ++ decimal number)) }
-{
-    into.append(label)?;
-    print_number(alloc, into, number)?;
-    Ok(())
-}
+use rh_words::{Bytes, OutOfMemory};
 
 /// Appends a label and the name of the group or the promise for which a node did not run.
 #[tactic(auto, using(std::proofs::Common::append_assoc))]

@@ -7,11 +7,11 @@ ghost use Rattle.rh_report.specs.NodeLines.{attempt_line, attempt_lines, counts_
 ghost use Rattle.rh_report.specs.Reports.{nodes_text};
 
 use crate::ends::{trials_at, verdict_at};
-use crate::naming::{print_cause, print_labelled, print_node_name};
+use crate::naming::{print_cause, print_node_name};
 use crate::told::Told;
 use rh_plan::{Plan, Trial, Verdict};
 use rh_rules::Kind;
-use rh_words::{Bytes, OutOfMemory};
+use rh_words::{Bytes, OutOfMemory, print_labelled};
 use std::alloc::Global;
 
 /// Appends the lines of all nodes.

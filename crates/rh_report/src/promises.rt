@@ -6,12 +6,12 @@ ghost use Rattle.rh_report.specs.PromiseLines.{declared_line, is_declared_at, is
 ghost use Rattle.rh_report.specs.Reports.{promises_text};
 
 use crate::ends::{put_at, words_or_none};
-use crate::naming::{print_labelled, print_node_name, print_promise_name};
+use crate::naming::{print_node_name, print_promise_name};
 use crate::told::Told;
 use rh_journal::Shown;
 use rh_plan::Plan;
 use rh_rules::Kind;
-use rh_words::{Bytes, OutOfMemory, Words};
+use rh_words::{Bytes, OutOfMemory, Words, print_labelled};
 use std::alloc::Global;
 
 /// Appends the lines of all declared promises.

@@ -6,14 +6,13 @@ ghost use Rattle.rh_plan.specs.Results.{is_accepted, is_failed, is_skipped};
 ghost use Rattle.rh_report.specs.Totals.{endings_text, is_put_at, is_task_at, made_by, made_text, put_count, task_count, total_line};
 
 use crate::ends::{put_at, trials_at};
-use crate::naming::print_labelled;
 use crate::promises::is_declared;
 use crate::told::Told;
 use crate::trials::Trials;
 use rh_injector::{Faults, Strike};
 use rh_plan::{Plan, Verdict};
 use rh_rules::Kind;
-use rh_words::{Bytes, OutOfMemory};
+use rh_words::{Bytes, OutOfMemory, print_labelled};
 use std::alloc::Global;
 
 /// Appends the last line.

@@ -1,6 +1,7 @@
 -- What planning asks of a statement, whatever its form: one row for each form. All that is said of lists of statements is said over these.
 use Rattle.std.specs.Prelude.{ℕ, ◌+◌, ◌*◌, ◌==◌, ◌&&◌, ◌≡◌, ◌≤◌, ◌<◌, List, [], ◌∷◌, ◌++◌, Bool, true, false, not, Option, Some, None, length, nat_le, option_to_list, sum, slice_index, drop, replicate}
 use Rattle.std.specs.List.{list_all}
+use Rattle.rh_rules.specs.declared.node.TheConstants.{SCOPE_WORDS}
 use Rattle.rh_task_text.specs.declared.statement.Statement.{Statement}
 use Rattle.rh_task_text.specs.declared.statement.Statement.TheVariants as text
 use Rattle.rh_task_text.specs.declared.statement.SchemeText.{SchemeText}
@@ -156,7 +157,7 @@ facets (text.Promise name len temp) = record nothing { declared = Some name; pro
 facets (text.Matrix name rows cols) = record nothing { turn = Opens; declared = Some name; shaped = Some (named_shape name rows cols) }
 facets (text.Row columns values) = record nothing { row = Some (cells_of columns values) }
 facets (text.Task name scheme awaits) = record nothing { turn = Opens; declared = Some name; awaited = awaits; task_awaits = awaits; scheme = Some scheme }
-facets (text.Finish name) = record nothing { turn = Opens; declared = Some name; promised = Some (declared_promise name 3 false true) }
+facets (text.Finish name) = record nothing { turn = Opens; declared = Some name; promised = Some (declared_promise name SCOPE_WORDS false true) }
 facets (text.Group name awaits) = record nothing { turn = Opens; declared = Some name; awaited = awaits }
 facets text.End = record nothing { turn = Closes }
 facets (text.LetLit x words) = makes x [] always (λ ls. length words) (λ ns. steps.Lit words)

@@ -2,8 +2,9 @@
 use Rattle.std.specs.Prelude.{ℕ, ◌≡◌, ◌<◌, ◌≤◌, ◌+◌, ◌↔◌, List, [], ◌∷◌, ◌++◌, Bool, Option, Some, None, ⊤, true, false, filter, length, map, slice_get, slice_index, slice_index_or, IsSomeAnd, is_some, nat_eq, option_and_then, take}
 use Rattle.std.specs.List.{AllByRecursion, IsDistinct, list_any}
 use Rattle.std.specs.Str.{bytes_eq}
+use Rattle.rh_rules.specs.declared.node.TheConstants.{SCOPE_WORDS}
 use Rattle.rh_words.specs.Naming.{is_name}
-use Rattle.rh_words.specs.declared.limits.TheConstants.{MAX_NODES, MAX_PROMISES, MAX_PROMISE_WORDS, MAX_TOTAL_WORDS, MAX_SHOWN_WORDS, MAX_AWAITS, MAX_LETS, MAX_CHECKS, MAX_TERMS, MAX_SHIFT}
+use Rattle.rh_words.specs.declared.limits.TheConstants.{MAX_NODES, MAX_PROMISES, MAX_PROMISE_WORDS, MAX_TOTAL_WORDS, MAX_SHOWN_WORDS, MAX_AWAITS, MAX_LETS, MAX_CHECKS, MAX_TERMS, MAX_SHIFT, MAX_REPLAYS}
 use Rattle.rh_check.specs.declared.spec.Spec.{Spec}
 use Rattle.rh_check.specs.declared.spec.Spec.TheVariants.{Range, Total, Linear, Conserve, Conserve2, Product, User}
 use Rattle.rh_check.specs.declared.spec.UserSpec.{UserSpec}
@@ -72,7 +73,7 @@ has_product checks = list_any (λ c. is_product c.spec) checks
 abbrev pub IsLawfulScheme : Node → Scheme → Type 0
 IsLawfulScheme node Plain = node.checks ≡ []
 IsLawfulScheme node Replicate = node.checks ≡ []
-IsLawfulScheme node (Replay limit) = (1 ≤ limit) × (limit ≤ 8)
+IsLawfulScheme node (Replay limit) = (1 ≤ limit) × (limit ≤ MAX_REPLAYS)
 IsLawfulScheme node Abft = length (product_checks node.checks) ≡ 1
 
 -- how many words the locals of a task have when it ends
@@ -119,8 +120,14 @@ pub record IsLawfulGroup (node : Node) : Type 0 where
 pub record IsLawfulScope (promises : List PlannedPromise) (node : Node) : Type 0 where
   pub bodiless : IsBodiless node
   pub awaits : node.awaits ≡ []
-  pub own : (q : ℕ) × (node.puts ≡ q ∷ []) × (slice_index (promise_lens promises) q ≡ 3)
+  pub own : (q : ℕ) × (node.puts ≡ q ∷ []) × (slice_index (promise_lens promises) q ≡ SCOPE_WORDS)
   pub members_once : IsDistinct nat_eq node.members
+
+-- a node of this kind is a task
+abbrev pub is_task : Kind → Bool
+is_task Task = true
+is_task Group = false
+is_task Scope = false
 
 -- what a node has by its kind
 abbrev pub IsLawfulKind : List Shape → List PlannedPromise → Node → Kind → Type 0

@@ -1,7 +1,7 @@
 -- The rules of planning, each said once over all forms, and the reason of a line that breaks one.
 use Rattle.std.specs.Prelude.{ℕ, ◌≡◌, ◌+◌, ◌==◌, List, [], ◌∷◌, Bool, true, false, Option, Some, None, length, not, ◌&&◌, ◌||◌, nat_le, nat_lt, cond, slice_index, is_some, ⊤}
 use Rattle.std.specs.List.{list_any}
-use Rattle.rh_words.specs.declared.limits.TheConstants.{MAX_NODES, MAX_PROMISES, MAX_PROMISE_WORDS, MAX_TOTAL_WORDS, MAX_SHOWN_WORDS, MAX_MATRICES}
+use Rattle.rh_words.specs.declared.limits.TheConstants.{MAX_NODES, MAX_PROMISES, MAX_PROMISE_WORDS, MAX_TOTAL_WORDS, MAX_SHOWN_WORDS, MAX_MATRICES, MAX_REPLAYS}
 use Rattle.rh_words.specs.declared.reason.Reason.{Reason}
 use Rattle.rh_words.specs.declared.reason.Reason.TheVariants as reasons
 use Rattle.rh_task_text.specs.declared.statement.Statement.{Statement}
@@ -76,7 +76,7 @@ is_misfit f s =
 
 -- the number of attempts is none that a task may have
 abbrev pub is_bad_scheme : SchemeText → Bool
-is_bad_scheme (Replay limit) = limit == 0 || nat_lt 8 limit
+is_bad_scheme (Replay limit) = limit == 0 || nat_lt MAX_REPLAYS limit
 is_bad_scheme Plain = false
 is_bad_scheme Replicate = false
 is_bad_scheme Abft = false

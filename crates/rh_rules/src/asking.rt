@@ -1,6 +1,7 @@
 //! What the forms of checks read and ask. Each call is one table over the forms.
 
 ghost use Rattle.std.specs.Prelude.{◌≡◌, ◌≤◌, ◌++◌, length, slice_index, OnOk, true};
+ghost use Rattle.rh_words.specs.declared.limits.TheConstants.{MAX_TERMS};
 ghost use Rattle.rh_rules.specs.Facets.{facets, sixteen_terms};
 ghost use Rattle.rh_rules.specs.Limits.{IsWithinLimits};
 ghost use Rattle.rh_rules.specs.Rules.{asks_product};
@@ -133,7 +134,7 @@ fn grid_spec(inputs: &[u32], cols: u32, k: u64, s: u32) -> Spec
 /// The terms of these pairs, and behind them terms of factor 0.
 fn sixteen_terms(inputs: &[u32], factors: &[u64]) -> [Term; 16]
     requires pairs { length inputs.now ≡ length factors.now }
-    requires few { length inputs.now ≤ 16 }
+    requires few { length inputs.now ≤ MAX_TERMS }
     ensures { result ≡ sixteen_terms inputs.now factors.now }
 {
     let mut terms = [Term {

@@ -1,6 +1,7 @@
 //! What the forms of statements make, use and need. Each call is one table over the forms.
 
 ghost use Rattle.std.specs.Prelude.{◌≡◌, ◌≤◌, ◌+◌, ◌++◌, ◌∷◌, [], Some, length, option_to_list, sum, slice_index, IfOk, OnOk, true};
+ghost use Rattle.rh_words.specs.declared.limits.TheConstants.{MAX_PARTS, MAX_PROMISE_WORDS};
 ghost use Rattle.rh_rules.specs.declared.body.Step.TheVariants as steps;
 ghost use Rattle.rh_rules.specs.Facets.{facets, are_sides};
 ghost use Rattle.rh_rules.specs.Limits.{IsWithinLimits};
@@ -152,7 +153,7 @@ pub fn made_len(statement: &Statement, shape: Shape, lens: &[u32]) -> u64
 }
 
 fn sum_of(lens: &[u32]) -> u64
-    requires { length lens.now ≤ 16 }
+    requires { length lens.now ≤ MAX_PARTS }
     ensures { result ≡ sum lens.now }
 {
     let mut total = 0;
@@ -176,7 +177,7 @@ pub fn step_of(
     requires lens { length lens.now ≡ length (facets statement.now).used }
     requires within { IsWithinLimits statement.now }
     requires fitting { (facets statement.now).fits shape lens.now ≡ true }
-    requires short { (facets statement.now).len shape lens.now ≤ 4096 }
+    requires short { (facets statement.now).len shape lens.now ≤ MAX_PROMISE_WORDS }
     ensures { IfOk result (λ step. step ≡ (facets statement.now).step matrix numbers.now) }
 {
     let step = match statement {

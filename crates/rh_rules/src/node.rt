@@ -5,6 +5,9 @@ use crate::checks::CheckList;
 use crate::numbers::Numbers;
 use rh_words::{Name, NameList};
 
+/// How many words the own promise of a scope has: the numbers of its accepted, failed and skipped tasks.
+pub const SCOPE_WORDS: u32 = 3;
+
 /// What a node is.
 #[derive(Clone, Copy, PartialEq, Eq)]
 pub enum Kind {

@@ -1,6 +1,7 @@
 //! The first check of a task that a buffer fails.
 
 ghost use Rattle.std.specs.Prelude.{◌≡◌, ◌≤◌, length};
+ghost use Rattle.rh_words.specs.declared.limits.TheConstants.{MAX_CHECKS};
 ghost use Rattle.std.specs.List.{AllByRecursion};
 ghost use Rattle.rh_schemes.specs.Checking.{CanBeMade, planned_passes, first_planned};
 
@@ -17,7 +18,7 @@ pub(crate) fn first_failing<I: Inputs, C: Checks>(
     inputs: &I,
     buffer: &Buffer,
 ) -> Option<u32>
-    requires few { length checks.now ≤ 16 }
+    requires few { length checks.now ≤ MAX_CHECKS }
     requires fits { AllByRecursion (CanBeMade matrices.now (C.specs handed.now) (I.lists inputs.now) buffer.now) checks.now }
     ensures { result ≡ first_planned matrices.now (C.specs handed.now) (I.lists inputs.now) buffer.now checks.now }
 {

@@ -9,7 +9,8 @@ use Rattle.std.specs.List.{All, range_with_len}
 use Rattle.rh_sparse.specs.declared.matrix.Cell.{Cell}
 use Rattle.rh_sparse.specs.Matrix.{MatrixData, IsCell, IsRow, IsMatrix}
 use Rattle.rh_sparse.specs.Product.{low_word, row_product, product_value}
-use Rattle.rh_sparse.specs.Sums.{sum_below, weighted_sum}
+use Rattle.rh_words.specs.Sums.{sum_below}
+use Rattle.rh_sparse.specs.Sums.{weighted_sum}
 use Rattle.rh_sparse.specs.Checksums.{entry, column, checksums_of, expected_sum, plain_difference, weighted_difference}
 use Rattle.rh_sparse.specs.Laws.{ProductsAgree, OneAlteredWordOfAProductIsRestored}
 use Rattle.rh_sparse.proofs.Altering.{one_altered_word_restored}

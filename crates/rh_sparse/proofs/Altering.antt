@@ -4,7 +4,8 @@ use Rattle.std.proofs.lemmas.Bool.{cases_lt}
 use Rattle.std.proofs.lemmas.Int.{ints}
 use Rattle.std.proofs.lemmas.List.{set-set, set-get_or, get_or-set_same, get_or-set_other, length-set}
 use Rattle.std.proofs.lemmas.List.Sums.{sum_by-set}
-use Rattle.rh_sparse.specs.Sums.{sum_below, weighted_sum}
+use Rattle.rh_words.specs.Sums.{sum_below}
+use Rattle.rh_sparse.specs.Sums.{weighted_sum}
 use Rattle.rh_sparse.specs.Checksums.{ChecksumData, plain_difference, weighted_difference, AgreesWith}
 use Rattle.rh_sparse.specs.Correction.{IsRestored}
 use Rattle.rh_sparse.specs.Laws.{DiffersInOneWord, OneAlteredWordIsRestored}

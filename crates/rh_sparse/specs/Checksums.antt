@@ -1,11 +1,12 @@
 -- The two checksums of a matrix, and how far a list of words is from agreeing with them.
-use Rattle.std.specs.Prelude.{ℕ, ◌*◌, ◌<◌, ◌≤◌, ◌^◌, ◌≡◌, ◌==◌, if◌then◌else◌, ℤ, pos, ◌-ℤ◌, List, length, map, slice_index, sum}
+use Rattle.std.specs.Prelude.{ℕ, ◌*◌, ◌<◌, ◌≤◌, ◌^◌, ◌≡◌, ◌==◌, if◌then◌else◌, ℤ, pos, ◌-ℤ◌, List, length, map, slice_index, sum, unsigned_abs}
 use Rattle.std.specs.List.{All, range_with_len, sum_by}
 use Rattle.rh_sparse.specs.declared.matrix.Cell.{Cell}
 use Rattle.rh_words.specs.declared.limits.TheConstants.{MAX_MATRIX_SIDE}
 use Rattle.rh_sparse.specs.Matrix.{MatrixData}
 use Rattle.rh_sparse.specs.Product.{low_word}
-use Rattle.rh_sparse.specs.Sums.{sum_below, weighted_sum}
+use Rattle.rh_words.specs.Sums.{sum_below}
+use Rattle.rh_sparse.specs.Sums.{weighted_sum}
 
 -- the entry of a row in a column: the value of its cell there, and 0 where it has none
 unfoldable pub entry : ℕ → List Cell → ℕ
@@ -52,3 +53,7 @@ pub record AreChecksums (sums : ChecksumData) : Type 0 where
   pub paired : length sums.weighted ≡ length sums.plain
   pub plain : AreSums sums.plain (2 ^ 32)
   pub weighted : AreSums sums.weighted (2 ^ 44)
+
+-- the number is far from the ends of 128 bits, as each difference of words and checksums within the limits is
+abbrev pub IsSmall : ℤ → Type 0
+IsSmall d = unsigned_abs d < 2 ^ 100

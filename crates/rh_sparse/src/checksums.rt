@@ -1,6 +1,6 @@
 //! The two checksums of a sparse matrix, and how far words are from agreeing with them.
 
-ghost use Rattle.std.specs.Prelude.{◌≡◌, ◌+◌, ◌*◌, ◌<◌, ◌≤◌, ◌^◌, ℕ, IfOk, length, map, replicate, slice_index, sum, unsigned_abs};
+ghost use Rattle.std.specs.Prelude.{◌≡◌, ◌+◌, ◌*◌, ◌<◌, ◌≤◌, ◌^◌, ℕ, IfOk, length, map, replicate, slice_index, sum};
 ghost use Rattle.std.specs.List.{range_with_len};
 ghost use Rattle.rh_sparse.specs.Matrix.{IsRow};
 ghost use Rattle.rh_sparse.specs.Sums.{weighted_sum};
@@ -30,7 +30,7 @@ impl Model for Checksums {
 }
 
 impl Checksums {
-    ghost use Rattle.rh_sparse.specs.Checksums.{checksums_of, plain_difference, weighted_difference, AreChecksums};
+    ghost use Rattle.rh_sparse.specs.Checksums.{checksums_of, plain_difference, weighted_difference, AreChecksums, IsSmall};
 
     /// The checksums of a matrix: one of each kind for a column, the plain ones below 2 ^ 32 and the weighted ones below 2 ^ 44.
     pub fn of(alloc: Global, a: &Matrix) -> Result<Checksums, OutOfMemory>
@@ -52,8 +52,8 @@ impl Checksums {
         requires rows { length y.now ≤ MAX_MATRIX_SIDE }
         ensures plain { result.0 ≡ plain_difference self.now x.now y.now }
         ensures weighted { result.1 ≡ weighted_difference self.now x.now y.now }
-        ensures plain_size { unsigned_abs result.0 < 2 ^ 100 }
-        ensures weighted_size { unsigned_abs result.1 < 2 ^ 100 }
+        ensures plain_size { IsSmall result.0 }
+        ensures weighted_size { IsSmall result.1 }
     {
         let plain = total(y) as i128 - expected(self.plain.as_slice(), x) as i128;
         let weighted = weighted_total(y) as i128 - expected(self.weighted.as_slice(), x) as i128;

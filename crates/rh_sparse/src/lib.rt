@@ -1,5 +1,6 @@
 //! Sparse matrices of whole numbers, their products with lists of words, and the two checksums of a matrix by which one altered
-//! word of a product is found and restored (after Huang and Abraham 1984, and the weighted checksums of Jou and Abraham 1986).
+//! word of a product is found and restored. The plain checksum is that of Huang and Abraham; the weighted one, and the correction by both,
+//! are defined here.
 //! The crates above rest on `product`, `Checksums` and `correct`, and on the law that words that agree with both checksums, altered
 //! in exactly one place, are restored. It stands on rh_words alone.
 #![tactic(auto)]

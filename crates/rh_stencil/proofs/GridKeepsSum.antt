@@ -5,7 +5,7 @@ use Rattle.std.proofs.lemmas.Bool.Decides.{nat_tests}
 use Rattle.std.proofs.Math.Nat.{suc-mul}
 use Rattle.rh_stencil.specs.Flux.{flux_value, balance_value}
 use Rattle.rh_stencil.specs.Grids.{grid_word, step2_value, FitsGrid, word_west, word_east, word_north, word_south}
-use Rattle.rh_stencil.specs.Sums.{sum_below}
+use Rattle.rh_words.specs.Sums.{sum_below}
 use Rattle.rh_stencil.specs.Conserved.{Conserves2}
 use Rattle.rh_stencil.proofs.LineKeepsSum.{flux_below, moved_alike}
 use Rattle.rh_stencil.proofs.RowWords.{east_inner, east_last, row_inside}

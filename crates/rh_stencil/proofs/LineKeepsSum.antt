@@ -5,7 +5,7 @@ use Rattle.rh_words.specs.Kernels.{sum_value}
 use Rattle.rh_stencil.specs.Flux.{flux_value, balance_value}
 use Rattle.rh_stencil.specs.Steps.{line_word, line_value, word_left, word_right, step1_value, last_word, first_word}
 use Rattle.rh_stencil.specs.Biased.{biased_flux}
-use Rattle.rh_stencil.specs.Sums.{sum_below}
+use Rattle.rh_words.specs.Sums.{sum_below}
 use Rattle.rh_stencil.specs.Conserved.{Conserves1}
 use Rattle.rh_stencil.proofs.FluxBias.{flux_unturned}
 use Rattle.rh_stencil.proofs.LineWords.{left_later, right_inner, right_last}

@@ -1,6 +1,6 @@
 -- What flows out of one word flows into the next, so only what flows over the ends of each line is left of a sum of fluxes.
 use Rattle.std.proofs.Common.{◌≡◌, ℕ, zero, suc, ◌+◌, ◌*◌, ◌<◌, ap, sym, ◌∙◌, arith}
-use Rattle.rh_stencil.specs.Sums.{sum_below}
+use Rattle.rh_words.specs.Sums.{sum_below}
 use Rattle.rh_stencil.proofs.RangeSums.{sum_same, sum_plus, sum_rows}
 
 -- one line of n + 1 places

@@ -1,7 +1,7 @@
 -- What a step keeps: the sum of its words, but for what flows over its edge.
 use Rattle.std.specs.Prelude.{◌≡◌, ℕ, ◌+◌, ◌-◌, ◌*◌, ◌%◌, ◌^◌, List, length, slice_index}
 use Rattle.rh_words.specs.Kernels.{sum_value}
-use Rattle.rh_stencil.specs.Sums.{sum_below}
+use Rattle.rh_words.specs.Sums.{sum_below}
 use Rattle.rh_stencil.specs.Flux.{flux_value, balance_value}
 use Rattle.rh_stencil.specs.Steps.{last_word, first_word}
 

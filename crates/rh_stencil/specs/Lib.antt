@@ -2,6 +2,5 @@ pub mod Flux
 pub mod Biased
 pub mod Steps
 pub mod Grids
-pub mod Sums
 pub mod Conserved
 pub mod Laws

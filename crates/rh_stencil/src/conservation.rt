@@ -1,6 +1,7 @@
 //! The checks that a step keeps the sum of its words, and the laws that a step without faults passes them.
 
 ghost use Rattle.std.specs.Prelude.{◌≡◌, ◌≤◌, ◌<◌, ◌↔◌, ◌+◌, ◌*◌, IsTrue, length, ℕ};
+ghost use Rattle.rh_words.specs.declared.limits.TheConstants.{MAX_SHIFT};
 ghost use Rattle.rh_stencil.specs.Conserved.{Conserves1, Conserves2, edge_inflow, edge_outflow};
 ghost use Rattle.rh_stencil.specs.Grids.{FitsGrid};
 ghost use Rattle.rh_stencil.specs.Laws.{Step1Conserves, Step2Conserves};
@@ -15,7 +16,7 @@ pub fn conserves1(out: &[u64], l: &[u64], m: &[u64], r: &[u64], k: u64, s: u32) 
     requires some { 0 < length m.now }
     requires right { 0 < length r.now }
     requires same { length out.now ≡ length m.now }
-    requires shift { s ≤ 63 }
+    requires shift { s ≤ MAX_SHIFT }
     ensures { IsTrue result ↔ Conserves1 out.now l.now m.now r.now k s }
 {
     let into = flux(l[l.len() - 1], m[0], k, s);
@@ -26,7 +27,7 @@ pub fn conserves1(out: &[u64], l: &[u64], m: &[u64], r: &[u64], k: u64, s: u32) 
 /// The sum of what flows from a halo into the words of `m` at `start` and at each `step` after it.
 fn sum_inflow(halo: &[u64], m: &[u64], start: usize, step: usize, k: u64, s: u32) -> u64
     requires inside { (i : ℕ) → i < length halo.now → start + i * step < length m.now }
-    requires shift { s ≤ 63 }
+    requires shift { s ≤ MAX_SHIFT }
     ensures { result ≡ edge_inflow halo.now m.now start step k s }
 {
     let mut sum: u64 = 0;
@@ -39,7 +40,7 @@ fn sum_inflow(halo: &[u64], m: &[u64], start: usize, step: usize, k: u64, s: u32
 /// The sum of what flows out of the words of `m` at `start` and at each `step` after it into a halo.
 fn sum_outflow(halo: &[u64], m: &[u64], start: usize, step: usize, k: u64, s: u32) -> u64
     requires inside { (i : ℕ) → i < length halo.now → start + i * step < length m.now }
-    requires shift { s ≤ 63 }
+    requires shift { s ≤ MAX_SHIFT }
     ensures { result ≡ edge_outflow halo.now m.now start step k s }
 {
     let mut sum: u64 = 0;
@@ -65,7 +66,7 @@ pub fn conserves2(
 ) -> bool
     requires fits { FitsGrid north.now south.now west.now east.now m.now cols }
     requires same { length out.now ≡ length m.now }
-    requires shift { s ≤ 63 }
+    requires shift { s ≤ MAX_SHIFT }
     ensures { IsTrue result
         ↔ Conserves2 out.now north.now south.now west.now east.now m.now cols k s }
 {

@@ -1,6 +1,7 @@
 //! What passes between two neighbouring words.
 
 ghost use Rattle.std.specs.Prelude.{◌≡◌, ◌≤◌};
+ghost use Rattle.rh_words.specs.declared.limits.TheConstants.{MAX_SHIFT};
 ghost use Rattle.rh_stencil.specs.Biased.{biased_flux};
 ghost use Rattle.rh_stencil.specs.Flux.{flux_value, balance_value};
 
@@ -10,7 +11,7 @@ use rh_words::{add, asr, mul, sub};
 /// signed number.
 #[tactic(auto, unfolding(crate::specs::Flux::flux_value))]
 pub fn flux(l: u64, r: u64, k: u64, s: u32) -> u64
-    requires { s ≤ 63 }
+    requires { s ≤ MAX_SHIFT }
     ensures { result ≡ flux_value l r k s }
 {
     asr(mul(k, sub(l, r)), s)
@@ -19,7 +20,7 @@ pub fn flux(l: u64, r: u64, k: u64, s: u32) -> u64
 /// `flux` with the bias that lanes give it: more by 2^63 shifted to the right by `s` bits.
 #[tactic(auto, unfolding(crate::specs::Biased::biased_flux))]
 pub fn flux_with_bias(l: u64, r: u64, k: u64, s: u32) -> u64
-    requires { s ≤ 63 }
+    requires { s ≤ MAX_SHIFT }
     ensures { result ≡ biased_flux l r k s }
 {
     add(mul(k, sub(l, r)), 1 << 63) >> s

@@ -1,6 +1,7 @@
 //! One step of a grid of words.
 
 ghost use Rattle.std.specs.Prelude.{◌≡◌, ◌≤◌, ◌<◌, ◌/◌, ◌%◌, ◌+◌, ◌-◌, ◌*◌, ◌^◌, IfOk, length, ℕ, slice_index};
+ghost use Rattle.rh_words.specs.declared.limits.TheConstants.{MAX_SHIFT};
 ghost use Rattle.rh_stencil.specs.Biased.{biased_balance_at, biased_flux, biased_flux_at};
 ghost use Rattle.rh_stencil.specs.Flux.{balance_value};
 ghost use Rattle.rh_stencil.specs.Steps.{line_word};
@@ -25,7 +26,7 @@ fn exchange_rest(
     requires same { length out.old ≡ length here.now }
     requires fluxes { length fluxes.old ≡ length here.now }
     requires below { length below.now ≡ length here.now }
-    requires shift { s ≤ 63 }
+    requires shift { s ≤ MAX_SHIFT }
     ensures words { (i : ℕ) → start ≤ i → i < length here.now
         → slice_index out.new i ≡ biased_balance_at out.old fluxes.old here.now below.now k s i }
     ensures fluxes { (i : ℕ) → start ≤ i → i < length here.now
@@ -47,7 +48,7 @@ fn exchange_rows(out: &mut [u64], fluxes: &mut [u64], here: &[u64], below: &[u64
     requires same { length out.old ≡ length here.now }
     requires fluxes { length fluxes.old ≡ length here.now }
     requires below { length below.now ≡ length here.now }
-    requires shift { s ≤ 63 }
+    requires shift { s ≤ MAX_SHIFT }
     ensures words { (i : ℕ) → i < length here.now
         → slice_index out.new i ≡ biased_balance_at out.old fluxes.old here.now below.now k s i }
     ensures fluxes { (i : ℕ) → i < length here.now
@@ -91,7 +92,7 @@ fn step_row(
     requires same { length out.old ≡ length here.now }
     requires fluxes { length fluxes.old ≡ length here.now }
     requires below { length below.now ≡ length here.now }
-    requires shift { s ≤ 63 }
+    requires shift { s ≤ MAX_SHIFT }
     ensures words { (c : ℕ) → c < length here.now
         → slice_index out.new c ≡ balance_value (line_word west here.now east k s c)
         (slice_index fluxes.old c) (biased_flux_at here.now below.now k s c) }
@@ -119,7 +120,7 @@ fn step_rows(
     requires same { length out.old ≡ length m.now }
     requires fluxes { length fluxes.old ≡ cols }
     requires fits { FitsGrid north.now south.now west.now east.now m.now cols }
-    requires shift { s ≤ 63 }
+    requires shift { s ≤ MAX_SHIFT }
     requires into { (c : ℕ) → c < cols
         → slice_index fluxes.old c ≡ biased_flux_at north.now m.now k s c }
     ensures { out.new ≡ step2_value north.now south.now west.now east.now m.now cols k s }
@@ -157,7 +158,7 @@ fn step_grid(
     requires same { length out.old ≡ length m.now }
     requires fluxes { length fluxes.old ≡ cols }
     requires fits { FitsGrid north.now south.now west.now east.now m.now cols }
-    requires shift { s ≤ 63 }
+    requires shift { s ≤ MAX_SHIFT }
     ensures { out.new ≡ step2_value north.now south.now west.now east.now m.now cols k s }
 {
     // This is for the fluxes from the north halo alone: what it leaves in the first row is written over.
@@ -181,7 +182,7 @@ pub fn step2(
     s: u32,
 ) -> Result<Words, OutOfMemory>
     requires fits { FitsGrid north.now south.now west.now east.now m.now cols }
-    requires shift { s ≤ 63 }
+    requires shift { s ≤ MAX_SHIFT }
     ensures { IfOk result (λ w.
         w ≡ step2_value north.now south.now west.now east.now m.now cols k s) }
 {

@@ -2,6 +2,7 @@
 //! flux, so it cancels where one flows in and another flows out.
 
 ghost use Rattle.std.specs.Prelude.{◌≡◌, ◌≤◌, ◌<◌, ◌+◌, ◌*◌, ◌^◌, ℕ, length, slice_index};
+ghost use Rattle.rh_words.specs.declared.limits.TheConstants.{MAX_SHIFT};
 ghost use Rattle.std.specs.Simd.Lanes.{zip2};
 ghost use Rattle.rh_stencil.specs.Biased.{biased_balance_at, biased_flux, biased_flux_at};
 ghost use Rattle.rh_stencil.specs.Steps.{line_inflow, line_word};
@@ -10,7 +11,7 @@ use std::simd::prelude::*;
 
 /// The four fluxes from the words `left` to the words `right`, each with the bias.
 pub fn biased_fluxes(left: u64x4, right: u64x4, k: u64, s: u32) -> u64x4
-    requires { s ≤ 63 }
+    requires { s ≤ MAX_SHIFT }
     ensures { result ≡ zip2 (λ x y. biased_flux x y k s) left right }
 {
     let difference = left - right;
@@ -28,7 +29,7 @@ pub fn biased_fluxes(left: u64x4, right: u64x4, k: u64, s: u32) -> u64x4
 pub fn step_blocks(out: &mut [u64], m: &[u64], blocks: usize, before: u64, k: u64, s: u32) -> u64
     requires same { length out.old ≡ length m.now }
     requires room { 4 * blocks < length m.now }
-    requires shift { s ≤ 63 }
+    requires shift { s ≤ MAX_SHIFT }
     ensures words { (after i : ℕ) → i < 4 * blocks
         → slice_index out.new i ≡ line_word before m.now after k s i }
     ensures into { result ≡ line_inflow before m.now k s (4 * blocks) }
@@ -60,7 +61,7 @@ pub fn exchange_blocks(
     requires fluxes { length fluxes.old ≡ length here.now }
     requires below { length below.now ≡ length here.now }
     requires room { 4 * blocks ≤ length here.now }
-    requires shift { s ≤ 63 }
+    requires shift { s ≤ MAX_SHIFT }
     ensures words { (i : ℕ) → i < 4 * blocks
         → slice_index out.new i ≡ biased_balance_at out.old fluxes.old here.now below.now k s i }
     ensures fluxes { (i : ℕ) → i < 4 * blocks

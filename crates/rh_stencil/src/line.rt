@@ -1,6 +1,7 @@
 //! One step of a line of words.
 
 ghost use Rattle.std.specs.Prelude.{◌≡◌, ◌≤◌, ◌<◌, ◌/◌, ◌%◌, ◌+◌, ◌*◌, ◌^◌, IfOk, length, ℕ, slice_index};
+ghost use Rattle.rh_words.specs.declared.limits.TheConstants.{MAX_SHIFT};
 ghost use Rattle.rh_stencil.specs.Steps.{step1_value, line_inflow, line_value, line_word};
 
 use crate::fluxes::{balance, flux};
@@ -12,7 +13,7 @@ use std::alloc::Global;
 fn step_rest(out: &mut [u64], m: &[u64], start: usize, into: u64, after: u64, k: u64, s: u32)
     requires same { length out.old ≡ length m.now }
     requires some { start < length m.now }
-    requires shift { s ≤ 63 }
+    requires shift { s ≤ MAX_SHIFT }
     ensures words { (before i : ℕ) → into ≡ line_inflow before m.now k s start
         → start ≤ i → i < length m.now
         → slice_index out.new i ≡ line_word before m.now after k s i }
@@ -32,7 +33,7 @@ fn step_rest(out: &mut [u64], m: &[u64], start: usize, into: u64, after: u64, k:
 pub fn step_line(out: &mut [u64], m: &[u64], before: u64, after: u64, k: u64, s: u32)
     requires same { length out.old ≡ length m.now }
     requires some { 0 < length m.now }
-    requires shift { s ≤ 63 }
+    requires shift { s ≤ MAX_SHIFT }
     ensures { out.new ≡ line_value before m.now after k s }
 {
     let blocks = (m.len() - 1) / 4;
@@ -54,7 +55,7 @@ pub fn step1(
     requires left { 0 < length l.now }
     requires some { 0 < length m.now }
     requires right { 0 < length r.now }
-    requires shift { s ≤ 63 }
+    requires shift { s ≤ MAX_SHIFT }
     ensures { IfOk result (λ w. w ≡ step1_value l.now m.now r.now k s) }
 {
     let mut out = vec![in alloc; 0; m.len()]?;

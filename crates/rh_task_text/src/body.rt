@@ -1,6 +1,7 @@
 //! The items of a program text that is read, and what is open below them.
 
 ghost use Rattle.std.specs.Prelude.{◌≡◌, ◌↔◌, ◌<◌, ◌≤◌, ◌-◌, ◌^◌, ℕ, List, [], Some, None, IsTrue, OnOk, OnErr, IfOk};
+ghost use Rattle.rh_words.specs.declared.limits.TheConstants.{MAX_LETS, MAX_CHECKS};
 ghost use Rattle.rh_words.specs.Refusals.{OnRefused};
 ghost use Rattle.rh_task_text.specs.Forms.{form};
 ghost use Rattle.rh_task_text.specs.FormRows.{IsHead};
@@ -137,7 +138,7 @@ impl Below {
         requires head { IsHead head }
         requires values { FitForm (form head.kind) values.now }
         requires rows { self.old.rows < 2 ^ 64 - 1 }
-        requires lines { self.old.lets ≤ 32 × self.old.checks ≤ 32 }
+        requires lines { self.old.lets ≤ MAX_LETS × self.old.checks ≤ MAX_CHECKS }
         ensures states { OnOk result (States head.kind values.now place.new) }
         ensures within { OnOk result (IsReasonBelow self.old.blocks self.old.rows self.old.lets self.old.checks place.new None) }
         ensures follows { OnOk result (FollowsLine head (change_by place.new) self.old.blocks self.old.rows self.old.lets self.old.checks self.new.blocks self.new.rows self.new.lets self.new.checks) }
@@ -174,7 +175,7 @@ impl Below {
     /// Counts a line of this form, which changes the blocks so.
     fn follow(&mut self, head: Head, change: Change) -> Result<(), OutOfMemory>
         requires rows { self.old.rows < 2 ^ 64 - 1 }
-        requires lines { self.old.lets ≤ 32 × self.old.checks ≤ 32 }
+        requires lines { self.old.lets ≤ MAX_LETS × self.old.checks ≤ MAX_CHECKS }
         ensures ok { OnOk result (FollowsLine head change self.old.blocks self.old.rows self.old.lets self.old.checks self.new.blocks self.new.rows self.new.lets self.new.checks) }
         ensures err { OnErr result (self.new ≡ self.old) }
     {

@@ -195,7 +195,7 @@ fn first_form(line: &[u8]) -> Option<FormKind>
 fn agrees_with(kind: FormKind, line: &[u8]) -> bool
     ensures { result ≡ agrees (WordPlace (form kind).first ∷ (form kind).choice) (words_of line.now) }
 {
-    agrees(form_of(kind).choice, &mut LineWords::of(line))
+    agrees(form_of(kind).choice, LineWords::of(line))
 }
 
 /// Whether the word is this keyword.

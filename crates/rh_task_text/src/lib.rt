@@ -1,6 +1,6 @@
 //! Program texts: what their lines say, and where a text first goes wrong.
 //! The one contract is that of `read_program`: bytes are read as the text that they spell, or refused at their first bad
-//! line, with the first reason that holds there.
+//! line, with the first reason that holds there. It stands on the words and places of rh_words.
 #![tactic(auto)]
 
 mod blocks;

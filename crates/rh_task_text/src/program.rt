@@ -74,8 +74,8 @@ fn read_lines(
     Ok(())
 }
 
-/// How many items to make room for, so that they never move: one for each line feed, and at most one for each four bytes,
-/// since no statement is shorter than `end` with its line feed.
+/// How many items to make room for: one for each line feed, and at most one for each four bytes, since no statement is shorter
+/// than `end` with its line feed. So the items never move; how much room there is, is a matter of time and memory alone.
 fn room_for_items(bytes: &[u8]) -> usize
     ensures { result ≤ length bytes.now / 4 }
 {

@@ -230,10 +230,20 @@ fn copies_a_file_of_any_store(rt: HostRuntime) -> Result<(), Fail> {
 /// The name of the file that the tests make.
 const NAME: &str = "rh_outside.test";
 
+/// The name of another.
+const OTHER: &str = "rh_outside.other";
+
 /// Makes a file of 10,000 bytes, so that it takes several reads, and answers whether all were written.
 fn make_file(rt: &impl Files) -> Result<bool, Fail> {
     let mut out = StdSink::new(fs::create(rt, NAME)?);
     Ok((0..1000).all(|_| write_all(&mut out, b"0123456789") == WriteAnswer::Ok))
+}
+
+/// Removes the two files.
+fn remove_files(rt: &impl Files) -> Result<(), Fail> {
+    fs::remove_file(rt, NAME)?;
+    fs::remove_file(rt, OTHER)?;
+    Ok(())
 }
 
 /// Whether a read of so many bytes at the most answers this, with a file of that length.
@@ -254,17 +264,32 @@ fn reads_whole<S: Shelf>(store: &mut S, into: &mut Bytes) -> bool {
         && reads_length(store, into, usize::MAX, ReadAnswer::Ok, 10_000)
 }
 
-/// Whether a file is written over, and a file in no folder is not written.
+/// Whether another file is written, and the first is as it was.
+fn writes_another<S: Shelf>(store: &mut S, into: &mut Bytes) -> bool {
+    store.write(OTHER, b"another\n") == WriteAnswer::Ok
+        && reads_length(store, into, 10_000, ReadAnswer::Ok, 10_000)
+}
+
+/// Whether a file is written over, the other is as it was, and a file in no folder is not written.
 fn writes_over<S: Shelf>(store: &mut S, into: &mut Bytes) -> bool {
     store.write(NAME, b"rhr 1\n") == WriteAnswer::Ok
-        && reads(store, into, &[(NAME, 6, ReadAnswer::Ok, "rhr 1\n")])
+        && reads(
+            store,
+            into,
+            &[
+                (NAME, 6, ReadAnswer::Ok, "rhr 1\n"),
+                (OTHER, 8, ReadAnswer::Ok, "another\n"),
+            ],
+        )
         && store.write("no such folder/file", b"") == WriteAnswer::Failed
 }
 
 /// Whether a store of real files reads and writes the file that was made.
 fn reaches<S: Shelf>(alloc: Global, store: &mut S) -> bool {
     let mut into = Bytes::new(alloc);
-    reads_whole(store, &mut into) && writes_over(store, &mut into)
+    reads_whole(store, &mut into)
+        && writes_another(store, &mut into)
+        && writes_over(store, &mut into)
 }
 
 /// Whether the file is gone for the store.
@@ -278,7 +303,7 @@ fn reaches_real_files(rt: HostRuntime) -> Result<(), Fail> {
     let made = make_file(&rt)?;
     let mut store = FsShelf::new(&rt);
     assert!(rt; made && reaches(rt.alloc(), &mut store));
-    fs::remove_file(&rt, NAME)?;
+    remove_files(&rt)?;
     assert!(rt; misses(rt.alloc(), &mut store));
     Ok(())
 }

@@ -1,7 +1,7 @@
 //! Lines and texts with the reason that they are refused for, by the rules of the language, and one printed text.
 
 use rh_task_text::{Text, print_program, read_program};
-use rh_words::{Bytes, Fault, OutOfMemory};
+use rh_words::{Bytes, Fault, OutOfMemory, print_labelled};
 use std::alloc::Global;
 use std::test::Fail;
 
@@ -26,11 +26,15 @@ fn text_of(alloc: Global, parts: &[&[u8]]) -> Result<Bytes, OutOfMemory> {
     Ok(text)
 }
 
-/// Whether the line, below line 1 and one more line, has this reason, or 0 where it is good.
+/// Whether the line, below line 1 and one more line, has this reason, or 0 where it is good: then the text is read, or a block is open at
+/// its end.
 fn has_reason(alloc: Global, above: &[u8], line: &[u8], reason: u8) -> Result<bool, OutOfMemory> {
     let text = text_of(alloc, &[b"rhc 1\n", above, b"\n", line])?;
     let (at, told) = first_bad(alloc, text.as_slice());
-    Ok(if at == 3 { told == reason } else { reason == 0 })
+    Ok(match reason {
+        0 => at == 0 || at == 4 && told == 7,
+        _ => at == 3 && told == reason,
+    })
 }
 
 /// Whether each row, a digit and a space before its line, is a line that has this reason.
@@ -249,8 +253,15 @@ fn counts_of_lines_are_judged(rt: HostRuntime) -> Result<(), Fail> {
     Ok(())
 }
 
-/// A task up to the words of a `lit`, and a matrix up to the entries of a row.
+/// A task up to the words of a `lit`, the parts of a `join` and the terms of a check, a task up to its awaits, and a matrix up to the
+/// entries of a row.
 const LITERAL: &[u8] = b"rhc 1\ntask t plain\nlet x lit";
+
+const JOIN: &[u8] = b"rhc 1\ntask t plain\nlet x join";
+
+const TERMS: &[u8] = b"rhc 1\ntask t plain\ncheck linear p 0";
+
+const AWAIT: &[u8] = b"rhc 1\ntask t plain await";
 
 const ROW: &[u8] = b"rhc 1\nmatrix m 1 4096\nrow";
 
@@ -258,13 +269,37 @@ const LONG_LINES: &[Row<'static>] = &[
     (LITERAL, b" 1", 4096, b"\nend", (0, 0)),
     (LITERAL, b" 1", 4097, b"\nend", (3, 9)),
     (LITERAL, b" 1", 5000, b" x\nend", (3, 5)),
-    (ROW, b" 0:1", 2049, b"\nend", (3, 9)),
     (ROW, b" 0:1", 5000, b" 9\nend", (3, 5)),
+    (JOIN, b" a", 16, b"\nend", (0, 0)),
+    (JOIN, b" a", 17, b"\nend", (3, 9)),
+    (TERMS, b" a 1", 16, b"\nend", (0, 0)),
+    (TERMS, b" a 1", 17, b"\nend", (3, 9)),
+    (AWAIT, b" p", 16, b"\nend", (0, 0)),
+    (AWAIT, b" p", 17, b"\nend", (2, 9)),
 ];
 
 #[test]
 fn long_lines_are_judged(rt: HostRuntime) -> Result<(), Fail> {
     assert!(rt; are_refused(rt.alloc(), LONG_LINES)?);
+    Ok(())
+}
+
+/// The first bad line of a matrix of one row with this many cells, and its reason.
+fn row_of(alloc: Global, cells: u64) -> Result<(u32, u8), OutOfMemory> {
+    let mut text = text_of(alloc, &[ROW])?;
+    for column in 0..cells {
+        print_labelled(alloc, b" ", column, &mut text)?;
+        text.append(b":1")?;
+    }
+    text.append(b"\nend")?;
+    Ok(first_bad(alloc, text.as_slice()))
+}
+
+#[test]
+fn cells_of_a_row_are_counted(rt: HostRuntime) -> Result<(), Fail> {
+    let alloc = rt.alloc();
+    assert!(rt; row_of(alloc, 2048)? == (0, 0));
+    assert!(rt; row_of(alloc, 2049)? == (3, 9));
     Ok(())
 }
 

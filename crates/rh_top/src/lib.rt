@@ -5,7 +5,6 @@
 
 mod command;
 mod laws;
-mod printing;
 mod status;
 mod texts;
 mod tool;

@@ -10,13 +10,12 @@ ghost use Rattle.rh_check.specs.Users.{handed_checks, ArePaired};
 ghost use Rattle.rh_top.specs.CallSteps.{Delivers, IsToldOf, IsToldRefusal, refusal_of};
 
 use crate::command::read_command;
-use crate::printing::print_labelled;
 use crate::status::Status;
 use crate::texts::{Stop, Texts, compose};
 use rh_check::Checks;
 use rh_outside::{Shelf, Sink, WriteAnswer, write_all};
 use rh_schemes::Gate;
-use rh_words::{Bytes, OutOfMemory, Reason, Refusal};
+use rh_words::{Bytes, OutOfMemory, Reason, Refusal, print_labelled};
 use std::alloc::Global;
 
 /// Does what the words say, and answers the exit status. The words are those after the program's name. Programs may name the

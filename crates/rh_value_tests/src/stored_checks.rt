@@ -66,6 +66,19 @@ fn range_check(alloc: Global, name: &[u8], lo: u64, hi: u64) -> Result<StoredChe
     Ok(StoredCheck::new(named(name), UserSpec::Range { lo, hi }, test))
 }
 
+/// A check of this name that each word is from 7 to 120, as the pages show it.
+#[tactic(auto, unfolding(rh_check::specs::Checks::user_passes))]
+fn small_check(alloc: Global, name: Name) -> Result<StoredCheck, AllocError> {
+    let limit = 120;
+    let test = Box::new(
+        alloc,
+        move |words: &[u64]| -> bool
+            ensures { result ≡ user_passes (asks.Range 7 limit) words.now }
+        { words.iter().all(|word| 7 <= *word && *word <= limit) },
+    )?;
+    Ok(StoredCheck::new(name, UserSpec::Range { lo: 7, hi: limit }, test))
+}
+
 /// Whether each word is a byte, and whether they sum to 0.
 fn bytes_and_sums(alloc: Global) -> Result<With<With<NoChecks>>, AllocError> {
     Ok(two(byte_check(alloc)?, zero_sum_check(alloc)?))
@@ -134,7 +147,7 @@ const SMALL: &[Row<'static>] = &[
 #[test]
 fn a_check_of_ones_own_is_asked(rt: HostRuntime) -> Result<(), Fail> {
     let checks = With {
-        first: range_check(rt.alloc(), b"small", 7, 120)?,
+        first: small_check(rt.alloc(), named(b"small"))?,
         rest: NoChecks,
     };
     assert!(rt; pass(rt.alloc(), &checks, SMALL));

@@ -1,7 +1,7 @@
 -- Words in their places, one after another.
-use Rattle.std.proofs.Common.{◌≡◌, ℕ, suc, ◌+◌, ◌<◌, List, [], ◌∷◌, ◌++◌, Some, None, Bool, true, false, nat_lt, length, refl, ap, sym, ◌∙◌, subst, append_assoc, append-nil, length-append, cond, arith}
+use Rattle.std.proofs.Common.{◌≡◌, ℕ, suc, ◌+◌, ◌<◌, ◌≤◌, List, [], ◌∷◌, ◌++◌, Some, None, Bool, true, false, nat_lt, length, refl, ap, sym, ◌∙◌, subst, append_assoc, append-nil, length-append, cond, arith}
 use Rattle.std.specs.Prelude.{◌&&◌, not, MatchBool}
-use Rattle.std.proofs.lemmas.Bool.{ltb-false}
+use Rattle.std.proofs.lemmas.Bool.{ltb-false, ltb-true}
 use Rattle.rh_words.specs.declared.reason.Reason.TheVariants.{BadName, BadNumber, Count}
 use Rattle.rh_words.specs.declared.value.Place.{Place}
 use Rattle.rh_words.specs.declared.value.Value.{Value}
@@ -9,6 +9,9 @@ use Rattle.rh_words.specs.Values.{SayWords, IsAt}
 use Rattle.rh_words.specs.Places.{agrees, pass, passes_name, passes_number, passes_word, has_count, fills, places_reason, first_reason, FitPlaces}
 use Rattle.rh_words.specs.PlaceWalks.{Places, places, next_in, next_place, may_end, ToldBy, IsTold, IsNothingTold}
 use Rattle.rh_words.proofs.WordsInPlaces.{both}
+
+one_more : (values values2 : List Value) (v : Value) (most : ℕ) → values2 ≡ values ++ v ∷ [] → length values < most → length values2 ≤ most
+one_more values values2 v most same few = omega (arith, ap (λ (l : List Value). length l) same, length-append values (v ∷ []))
 
 and_assoc : (a b c : Bool) → (a && (b && c)) ≡ ((a && b) && c)
 and_assoc true b c = refl
@@ -87,6 +90,10 @@ told_next most first all left ps ps2 p word names numbers words few names2 numbe
           let b2 = both numbers (passes_number p word) (sym by.numbered ∙ b) in
           let c2 = both words (passes_word p word) (sym by.worded ∙ c) in
           no_room few values most (length left) (length all) (told.sized a2.0 b2.0 c2.0) (told.many a2.0 b2.0 c2.0) (sym by.counted ∙ d);
+      short = λ a b c d.
+          let d2 = both few (nat_lt (length values) most) (sym by.counted ∙ d) in
+          let v = by.valued a b c d in
+          one_more values values2 v.0 most v.1 (ltb-true (length values) most d2.1);
     }
 
 -- no word told anything
@@ -100,6 +107,7 @@ told_none most first all names numbers words few values none =
       valued = λ _ _ _ _ vs says fits. rw none.valued (says, fits);
       sized = λ _ _ _ _. rw none.valued (omega arith);
       many = λ _ _ _ not_few. cc;
+      short = λ _ _ _ _. rw none.valued (omega arith);
     }
 
 reason_of : (a b c : Bool) → (a && (b && c)) ≡ false → cond (not a) (Some BadName) (cond (not b) (Some BadNumber) (cond (not c) (Some Count) None)) ≡ Some (first_reason a b)
@@ -166,6 +174,10 @@ told_answer most first all left ps names numbers words true values told none a b
 told_answer most first all left ps names numbers words false values told none a b c end =
     let last = subst (λ (ws : List (List ℕ)). IsTold most first all ws ps names numbers words false values) none told in
     (told_good most first all ps names numbers words false values last a b c end, last.many a b c refl)
+
+-- no word is left, and all values are kept: they are few
+pub told_few : (most : ℕ) (first : Places) (all left : List (List ℕ)) (ps : Places) (names numbers words few : Bool) (values : List Value) → IsTold most first all left ps names numbers words few values → left ≡ [] → names ≡ true → numbers ≡ true → words ≡ true → few ≡ true → length all ≤ most
+told_few most first all left ps names numbers words few values told none a b c d = omega (arith, told.short a b c d, told.sized a b c d, ap (λ (ws : List (List ℕ)). length ws) none)
 
 pub agrees_nothing : (choice : List Place) → agrees choice [] ≡ true
 agrees_nothing [] = refl

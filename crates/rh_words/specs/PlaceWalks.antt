@@ -1,5 +1,5 @@
 -- A walk over the words of a line in their places, and what they told so far.
-use Rattle.std.specs.Prelude.{ℕ, ◌≡◌, ◌<◌, ◌+◌, ◌&&◌, ◌++◌, List, [], ◌∷◌, Option, Some, None, Bool, true, false, nat_lt, length}
+use Rattle.std.specs.Prelude.{ℕ, ◌≡◌, ◌<◌, ◌≤◌, ◌+◌, ◌&&◌, ◌++◌, List, [], ◌∷◌, Option, Some, None, Bool, true, false, nat_lt, length}
 use Rattle.rh_words.specs.declared.value.Place.{Place}
 use Rattle.rh_words.specs.declared.value.Value.{Value}
 use Rattle.rh_words.specs.Values.{SaysWord, SayWords, IsAt}
@@ -47,6 +47,7 @@ pub record IsTold (most : ℕ) (first : Places) (all left : List (List ℕ)) (ps
   pub valued : names ≡ true → numbers ≡ true → words ≡ true → few ≡ true → (vs : List Value) → SayWords left vs → FitPlaces ps.here ps.more ps.again vs → SayWords all (values ++ vs) × FitPlaces first.here first.more first.again (values ++ vs)
   pub sized : names ≡ true → numbers ≡ true → words ≡ true → few ≡ true → length values + length left ≡ length all
   pub many : names ≡ true → numbers ≡ true → words ≡ true → few ≡ false → most < length all
+  pub short : names ≡ true → numbers ≡ true → words ≡ true → few ≡ true → length values ≤ most
 
 -- no word told anything
 pub record IsNothingTold (names numbers words few : Bool) (values : List Value) : Type 0 where

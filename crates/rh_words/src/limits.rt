@@ -33,6 +33,9 @@ pub const MAX_LETS: usize = 32;
 /// `check` lines of a task.
 pub const MAX_CHECKS: usize = 16;
 
+/// Attempts of a replayed task. The least is 1.
+pub const MAX_REPLAYS: u64 = 8;
+
 /// Parts of a `join`.
 pub const MAX_PARTS: usize = 16;
 

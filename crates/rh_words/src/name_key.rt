@@ -7,7 +7,7 @@ use crate::name::Name;
 
 /// A name as four numbers, of eight bytes each with the first the highest, and bytes of 0 behind the name. Equal keys are
 /// keys of equal names, and keys are compared faster than names.
-#[derive(Clone, Copy, PartialEq, Eq, PartialOrd, Ord)]
+#[derive(Clone, Copy, PartialEq, Eq, Hash)]
 pub struct NameKey {
     pub first: u64,
     pub second: u64,

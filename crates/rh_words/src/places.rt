@@ -1,6 +1,6 @@
 //! The words of a line in their places.
 
-ghost use Rattle.std.specs.Prelude.{◌≡◌, ◌<◌, ◌++◌, ◌∷◌, [], Some, None, IfOk, OnOk, MatchBool, length, if◌then◌else◌};
+ghost use Rattle.std.specs.Prelude.{◌≡◌, ◌<◌, ◌≤◌, ◌++◌, ◌∷◌, [], true, Some, None, IfOk, OnOk, MatchBool, length, if◌then◌else◌};
 ghost use Rattle.std.specs.Option.{option_map};
 ghost use Rattle.rh_words.specs.Text.{words_of};
 ghost use Rattle.rh_words.specs.Values.{SayWords};
@@ -127,6 +127,7 @@ impl Told {
         ensures ok { IfOk result (λ kept. MatchBool kept
             (SayWords (words_of line.now) self.new.values.items × FitPlaces places.here places.more places.again self.new.values.items)
             ((places_reason places.here places.more places.again (words_of line.now) ≡ None) × (most < length (words_of line.now)))) }
+        ensures few { IfOk result (λ kept. kept ≡ true → length (words_of line.now) ≤ most) }
         ensures refused { OnRefused result (λ reason. places_reason places.here places.more places.again (words_of line.now) ≡ Some reason) }
     {
         let mut words = LineWords::of(line);
@@ -217,6 +218,7 @@ impl LineValues {
         ensures ok { IfOk result (λ kept. MatchBool kept
             (SayWords (words_of line.now) self.new × FitPlaces places.here places.more places.again self.new)
             ((places_reason places.here places.more places.again (words_of line.now) ≡ None) × (most < length (words_of line.now)))) }
+        ensures few { IfOk result (λ kept. kept ≡ true → length (words_of line.now) ≤ most) }
         ensures refused { OnRefused result (λ reason. places_reason places.here places.more places.again (words_of line.now) ≡ Some reason) }
     {
         self.told.values.clear();
@@ -229,8 +231,8 @@ impl LineValues {
 }
 
 /// Whether the words that are there agree with these places.
-pub fn agrees(choice: &[Place], words: &mut LineWords<'_>) -> bool
-    ensures { result ≡ agrees choice.now words.old }
+pub fn agrees(choice: &[Place], mut words: LineWords<'_>) -> bool
+    ensures { result ≡ agrees choice.now words.entry }
 {
     for place in choice {
         let Some(word) = words.next() else {

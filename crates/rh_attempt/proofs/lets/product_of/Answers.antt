@@ -1,6 +1,6 @@
 use Rattle.std.proofs.Common.{◌≡◌, length, map, slice_index}
 use Rattle.std.proofs.lemmas.Result.{IfOk-weaker}
-use Rattle.rh_plan.specs.Buffers.{local_at}
+use Rattle.rh_check.specs.Checks.{words_at}
 use Rattle.rh_attempt.proofs.Products.{matrix_there, local_there, columns_fit, product_is}
 use Rattle.rh_attempt.proofs.lets.product_of.Goals as goal
 
@@ -17,5 +17,5 @@ product-requires c =
 pub returns : goal.returns
 returns c =
     IfOk-weaker c.product.result _ _
-    (λ w made. product_is c.args.plan.now.matrices c.matrices.result.now c.args.matrix c.words_at.result.now (local_at c.args.locals.now c.args.v) w c.get.result.now c.matrices.ensures c.words_at.ensures c.get.ensures made)
+    (λ w made. product_is c.args.plan.now.matrices c.matrices.result.now c.args.matrix c.words_at.result.now (words_at c.args.locals.now c.args.v) w c.get.result.now c.matrices.ensures c.words_at.ensures c.get.ensures made)
     c.product.ensures.value

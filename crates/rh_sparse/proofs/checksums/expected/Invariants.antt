@@ -1,6 +1,6 @@
 use Rattle.std.proofs.Common.{◌≡◌, ◌*◌, ◌^◌, ◌≤◌, slice_index}
 use Rattle.rh_sparse.specs.Product.{low_word}
-use Rattle.rh_sparse.specs.Sums.{sum_below}
+use Rattle.rh_words.specs.Sums.{sum_below}
 use Rattle.rh_sparse.proofs.checksums.expected.Given as goal
 
 abbrev pub invariant-loop-at : goal.invariant-loop-at

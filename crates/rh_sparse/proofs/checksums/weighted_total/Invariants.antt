@@ -1,5 +1,5 @@
 use Rattle.std.proofs.Common.{◌≡◌, ◌+◌, ◌*◌, ◌^◌, ◌≤◌, slice_index}
-use Rattle.rh_sparse.specs.Sums.{sum_below}
+use Rattle.rh_words.specs.Sums.{sum_below}
 use Rattle.rh_sparse.proofs.checksums.weighted_total.Given as goal
 
 abbrev pub invariant-loop-at : goal.invariant-loop-at

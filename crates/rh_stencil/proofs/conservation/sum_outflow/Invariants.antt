@@ -1,6 +1,6 @@
 use Rattle.std.proofs.Common.{◌≡◌, ◌+◌, ◌*◌, ◌%◌, ◌^◌, get_or}
 use Rattle.rh_stencil.specs.Flux.{flux_value}
-use Rattle.rh_stencil.specs.Sums.{sum_below}
+use Rattle.rh_words.specs.Sums.{sum_below}
 use Rattle.rh_stencil.proofs.conservation.sum_outflow.Given as goal
 
 abbrev pub invariant-loop-i : goal.invariant-loop-i

@@ -8,8 +8,8 @@ use Rattle.rh_rules.specs.declared.body.Step.TheVariants.{Put}
 use Rattle.rh_rules.specs.Above.{numbers_used, put_step}
 use Rattle.rh_rules.specs.Tables.{given}
 use Rattle.rh_planner.specs.States.{HasFacts, facts_of}
-use Rattle.rh_planner.specs.Declarations.{Declarations}
-use Rattle.rh_planner.specs.Making.{put_reason}
+use Rattle.rh_tables.specs.Declarations.{Declarations}
+use Rattle.rh_tables.specs.Making.{put_reason}
 use Rattle.rh_rules.specs.declared.shape.NamedShape.{NamedShape}
 use Rattle.rh_planner.specs.Planned.{look_above}
 use Rattle.rh_planner.proofs.Puts.{reason_put, reason_unknown, after_put}

@@ -6,7 +6,7 @@ use Rattle.rh_words.specs.declared.limits.TheConstants.{MAX_NODES}
 use Rattle.rh_rules.specs.declared.node.PlannedPromise.{PlannedPromise}
 use Rattle.rh_rules.specs.Tables.{is_among, is_promise, is_put, if_any, promise_number}
 use Rattle.rh_rules.specs.Rules.{are_distinct}
-use Rattle.rh_planner.proofs.Using.{is_put_numbers}
+use Rattle.rh_tables.proofs.Using.{is_put_numbers}
 use Rattle.rh_planner.proofs.Tasks.{start_full}
 use Rattle.rh_planner.proofs.planner.Planner.start.Goals as goal
 

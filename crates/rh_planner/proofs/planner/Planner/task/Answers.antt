@@ -1,7 +1,7 @@
 use Rattle.std.proofs.Common.{◌∙◌, ap, rules, map, List}
 use Rattle.rh_rules.specs.declared.node.PlannedPromise.{PlannedPromise}
 use Rattle.rh_rules.specs.Above.{await_local}
-use Rattle.rh_planner.specs.Declarations.{Declarations}
+use Rattle.rh_tables.specs.Declarations.{Declarations}
 use Rattle.rh_rules.specs.Tables.{promise_number}
 use Rattle.rh_planner.specs.States.{facts_of}
 use Rattle.rh_planner.proofs.Tasks.{reason_task}

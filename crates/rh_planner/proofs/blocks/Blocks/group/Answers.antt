@@ -1,9 +1,0 @@
-use Rattle.std.proofs.Common.{arith}
-use Rattle.std.proofs.lemmas.Grind.{common_steps}
-use Rattle.rh_planner.proofs.blocks.Blocks.group.Goals as goal
-
-pub returns : goal.returns
-returns = grind (arith, common_steps)
-
-pub loop-block-preserved : goal.loop-block-preserved
-loop-block-preserved = grind (arith, common_steps)

@@ -1,6 +1,0 @@
-use Rattle.std.proofs.Common.{rules}
-use Rattle.rh_planner.proofs.Correctors.{has_planned_product}
-use Rattle.rh_planner.proofs.open_task.OpenTask.has_corrector.Goals as goal
-
-pub returns-then-is_corrected : goal.returns-then-is_corrected
-returns-then-is_corrected = search (has_planned_product, rules)

@@ -1,0 +1,10 @@
+pub mod FirstPlaces
+pub mod NameKeys
+pub mod Declaring
+pub mod Using
+pub mod Reading
+pub mod Cells
+pub mod Correctors
+pub mod Stepping
+pub mod SoundTasks
+pub mod Members

@@ -1,0 +1,56 @@
+-- What a line uses, by the numbers of the locals.
+use Rattle.std.proofs.Common.{◌≡◌, ℕ, List, [], ◌∷◌, Bool, true, false, ◌||◌, not, Option, Some, None, map, refl, ap, ◌∙◌}
+use Rattle.std.specs.List.{list_any}
+use Rattle.std.specs.Prelude.{is_some, unwrap_or, slice_get, option_and_then}
+use Rattle.std.proofs.lemmas.Bool.{false≢true, true≢false}
+use Rattle.rh_task_text.specs.declared.statement.Statement.{Statement}
+use Rattle.rh_rules.specs.Tables.{LocalName, if_any, is_in, place_of, is_local, number_of, promise_at, promise_named, promise_number, is_promise, is_put}
+use Rattle.rh_rules.specs.declared.node.PlannedPromise.{PlannedPromise}
+use Rattle.rh_rules.specs.declared.shape.NamedShape.{NamedShape}
+use Rattle.rh_rules.specs.Facets.{facets}
+use Rattle.rh_rules.specs.Above.{numbers_used}
+use Rattle.rh_tables.specs.Making.{uses_unknown, uses_dropped, names_no_matrix}
+
+pub not_false : (b : Bool) → not b ≡ false → b ≡ true
+not_false true e = refl
+not_false false e = absurd (true≢false e)
+
+pub neither : (a b : Bool) → (a || b) ≡ false → (a ≡ false) × (b ≡ false)
+neither true b e = absurd (true≢false e)
+neither false b e = (refl, e)
+
+at_place : (o : Option ℕ) (p : ℕ → Bool) → is_some o ≡ true → if_any p o ≡ p (unwrap_or o 0)
+at_place None p there = absurd (false≢true there)
+at_place (Some i) p there = refl
+
+pub dropped_all : (ls : List LocalName) (drops : List ℕ) (xs : List (List ℕ)) → list_any (λ x. not (is_local ls x)) xs ≡ false → list_any (λ x. if_any (λ i. is_in i drops) (place_of x ls)) xs ≡ list_any (λ i. is_in i drops) (map (number_of ls) xs)
+dropped_all ls drops [] e = refl
+dropped_all ls drops (x ∷ xs) e =
+    let (first, rest) = neither (not (is_local ls x)) (list_any (λ x. not (is_local ls x)) xs) e in
+    ap (λ t. t || list_any (λ x. if_any (λ i. is_in i drops) (place_of x ls)) xs) (at_place (place_of x ls) (λ i. is_in i drops) (not_false (is_local ls x) first))
+    ∙ ap (λ t. is_in (number_of ls x) drops || t) (dropped_all ls drops xs rest)
+
+-- where all locals are there, the dropped ones are those of dropped numbers
+pub uses_dropped_numbers : (ms : List NamedShape) (ls : List LocalName) (drops : List ℕ) (s : Statement) → uses_unknown ms ls s ≡ false → uses_dropped ls drops s ≡ list_any (λ i. is_in i drops) (numbers_used ls s)
+uses_dropped_numbers ms ls drops s e = dropped_all ls drops (facets s).used (neither (list_any (λ x. not (is_local ls x)) (facets s).used) (names_no_matrix ms s) e).0
+
+-- what is declared is found by its number
+named_at : (ps : List PlannedPromise) (o : Option ℕ) → is_some o ≡ true → option_and_then (λ i. slice_get ps i) o ≡ slice_get ps (unwrap_or o 0)
+named_at ps None there = absurd (false≢true there)
+named_at ps (Some i) there = refl
+
+pub promise_by_number : (ps : List PlannedPromise) (q : List ℕ) → is_promise ps q ≡ true → promise_named ps q ≡ slice_get ps (promise_number ps q)
+promise_by_number ps q there = named_at ps (promise_at q ps) there
+
+put_all_numbers : (ps : List PlannedPromise) (names : List (List ℕ)) → list_any (λ q. not (is_promise ps q)) names ≡ false
+    → list_any (λ q. not (is_put ps q)) names ≡ list_any (λ i. not (if_any (λ p. is_some p.putter) (slice_get ps i))) (map (promise_number ps) names)
+put_all_numbers ps [] e = refl
+put_all_numbers ps (q ∷ names) e =
+    let (first, rest) = neither (not (is_promise ps q)) (list_any (λ q. not (is_promise ps q)) names) e in
+    ap (λ (o : Option PlannedPromise). not (if_any (λ p. is_some p.putter) o) || list_any (λ q. not (is_put ps q)) names) (promise_by_number ps q (not_false (is_promise ps q) first))
+    ∙ ap (λ t. not (if_any (λ p. is_some p.putter) (slice_get ps (promise_number ps q))) || t) (put_all_numbers ps names rest)
+
+-- where all names are promises, those that nothing puts are those of such numbers
+pub is_put_numbers : (ps : List PlannedPromise) (names : List (List ℕ)) → list_any (λ q. not (is_promise ps q)) names ≡ false
+    → list_any (λ q. not (is_put ps q)) names ≡ list_any (λ i. not (if_any (λ p. is_some p.putter) (slice_get ps i))) (map (promise_number ps) names)
+is_put_numbers ps names e = put_all_numbers ps names e

@@ -1,0 +1,12 @@
+use Rattle.std.proofs.Common.{◌≡◌, take, map, false, not}
+use Rattle.std.specs.Prelude.{slice_index}
+use Rattle.std.specs.List.{list_any}
+use Rattle.rh_rules.specs.Tables.{is_local, number_of, lens_of}
+use Rattle.rh_tables.proofs.used.look_up.Given as goal
+
+abbrev pub invariant-loop-name : goal.invariant-loop-name
+invariant-loop-name l = record {
+  known : list_any (λ x. not (is_local l.locals x)) (take l.name-index l.names) ≡ false;
+  numbers : l.numbers.items ≡ map (number_of l.locals) (take l.name-index l.names);
+  lens : l.lens.items ≡ map (λ i. slice_index (lens_of l.locals) i) (map (number_of l.locals) (take l.name-index l.names));
+}

@@ -1,6 +1,6 @@
 //! Real files.
 
-ghost use Rattle.std.specs.Prelude.{◌≡◌, ◌≤◌, ◌<◌, [], length, IfSome};
+ghost use Rattle.std.specs.Prelude.{◌≡◌, ◌≢◌, ◌≤◌, ◌<◌, [], length, IfSome};
 ghost use Rattle.std.specs.Io.KnownBytes.{Appends};
 ghost use Rattle.rh_outside.specs.Counts.{no_failures};
 ghost use Rattle.rh_outside.specs.MemoryStores.{failed_reads_after, failed_writes_after};
@@ -54,17 +54,8 @@ impl<'a, R: Files> Shelf for FsShelf<'a, R> {
         ensures counts { KeepsCounts (untold self.old) (untold self.new) }
         ensures answer { Reads (untold self.old) (untold self.new) name.now limit into.new result }
     {
-        into.clear();
-        let answer = match fs::open(self.rt, name) {
-            Ok(mut file) => read_file(&mut file, limit, into),
-            Err(_) => ReadAnswer::Failed,
-        };
-        if answer != ReadAnswer::Ok {
-            into.clear();
-        }
-        if answer == ReadAnswer::Failed {
-            self.failed_reads.rise();
-        }
+        let answer = read_named(self.rt, name, limit, into);
+        count_read(&mut self.failed_reads, answer);
         answer
     }
 
@@ -83,6 +74,32 @@ impl<'a, R: Files> Shelf for FsShelf<'a, R> {
         }
         answer
     }
+}
+
+/// Counts a read that failed.
+fn count_read(failed: &mut Count, answer: ReadAnswer)
+    ensures counted { failed.new ≡ failed_reads_after failed.old answer }
+    ensures later { failed.old ≤ failed.new }
+{
+    if answer == ReadAnswer::Failed {
+        failed.rise();
+    }
+}
+
+/// Reads all of the file of this name, where it has at most `limit` bytes. The buffer is empty where that fails.
+fn read_named<R: Files>(rt: &R, name: &str, limit: usize, into: &mut Bytes) -> ReadAnswer
+    ensures within { result ≡ ReadAnswer.Ok → length into.new ≤ limit }
+    ensures empty { result ≢ ReadAnswer.Ok → into.new ≡ [] }
+{
+    into.clear();
+    let answer = match fs::open(rt, name) {
+        Ok(mut file) => read_file(&mut file, limit, into),
+        Err(_) => ReadAnswer::Failed,
+    };
+    if answer != ReadAnswer::Ok {
+        into.clear();
+    }
+    answer
 }
 
 /// Writes all the bytes to a file that was just made empty.

@@ -1,11 +1,11 @@
 -- The journal of one thread with one event more.
-use Rattle.std.proofs.Common.{◌≡◌, ◌≢◌, ℕ, zero, suc, ◌+◌, ◌<◌, ◌≤◌, ◌==◌, ◌^◌, List, [], ◌∷◌, ◌++◌, Bool, cond, Option, Some, None, length, refl, arith, ap, sym, ◌∙◌, inl, inr, subst, eqb-true, eq-eqb, ne_eqb, append_assoc, append-nil, length-append, get_or, slice_set, take, map}
+use Rattle.std.proofs.Common.{◌≡◌, ◌≢◌, ℕ, zero, suc, ◌+◌, ◌<◌, ◌≤◌, ◌==◌, ◌^◌, List, [], ◌∷◌, ◌++◌, Bool, cond, Option, Some, None, length, refl, arith, ap, sym, ◌∙◌, inl, inr, subst, eqb-true, eq-eqb, ne_eqb, append_assoc, append-nil, length-append, get_or, slice_set, take, map, replicate}
 use Rattle.std.proofs.lemmas.Bool.{cases_Bool, false≢true}
 use Rattle.std.specs.List.{slice_get}
 use Rattle.std.proofs.lemmas.Option.{none-some, same_Some, slice_get-get_or}
 use Rattle.rh_plan.specs.declared.outcome.Trial.{Trial}
 use Rattle.std.proofs.lemmas.List.Sums.{count_by-le-length}
-use Rattle.std.proofs.lemmas.List.{length-set}
+use Rattle.std.proofs.lemmas.List.{length-set, length-replicate, get_or-replicate, take_more, take_all, map-append}
 use Rattle.rh_plan.specs.Plans.{PlanData}
 use Rattle.rh_plan.specs.Derived.{is_number}
 use Rattle.rh_journal.specs.declared.event.Event.{Event}
@@ -16,7 +16,7 @@ use Rattle.rh_journal.specs.Own.{references_of, attempts_from}
 use Rattle.rh_journal.specs.OneThread.{freed_after, with_frees, entry_at, numbered_from}
 use Rattle.rh_journal.proofs.Freeing.{times-more}
 use Rattle.std.proofs.lemmas.List.{get_or-set_same, get_or-set_other}
-use Rattle.rh_plain.specs.Drawing.{Drawn, drawn_so_far, HasDrawn, Draws, first_events}
+use Rattle.rh_plain.specs.Drawing.{Drawn, drawn_so_far, HasDrawn, Draws, IsDrawing, first_events}
 
 pub with_frees-append : (plan : PlanData) (seen xs ys : List Event) → with_frees plan seen (xs ++ ys) ≡ with_frees plan seen xs ++ with_frees plan (seen ++ xs) ys
 with_frees-append plan seen [] ys = ap (λ (l : List Event). with_frees plan l ys) (sym (append-nil seen))
@@ -103,12 +103,32 @@ draws_last plan es gone q by below all seen has = record {
     counted = ap (λ (n : ℕ). n + 1) (has.gone q below) ∙ sym (times-more (is_release q) seen (Release q by) ∙ ap (λ (b : Bool). times (is_release q) seen + cond b 1 0) (eq-eqb q q refl))
 
 -- nothing is drawn
-pub draws_nothing : (plan : PlanData) (gone : List ℕ) → length gone ≡ length plan.promises → ((q : ℕ) → get_or gone q 0 ≡ 0) → HasDrawn plan [] (drawn_so_far [] gone)
-draws_nothing plan gone size none = record { entries = refl; size = size; gone = λ q below. none q }
+pub draws_nothing : (plan : PlanData) (es : List Entry) (gone : List ℕ) (n : ℕ) → es ≡ [] → gone ≡ replicate n 0 → n ≡ length plan.promises → HasDrawn plan [] (drawn_so_far es gone)
+draws_nothing plan es gone n none zeros count = record {
+  entries = none;
+  size = ap length zeros ∙ length-replicate n 0 ∙ count;
+  gone = λ q below. ap (λ (l : List ℕ). get_or l q 0) zeros ∙ get_or-replicate n q 0 0 (omega arith);
+}
 
 -- one drawing behind another
 pub draws_then : (plan : PlanData) (a b c : Drawn) (xs ys : List Event) → Draws plan a b xs → Draws plan b c ys → Draws plan a c (xs ++ ys)
 draws_then plan a b c xs ys first second seen has = subst (λ (l : List Event). HasDrawn plan l c) (append_assoc seen xs ys) (second (seen ++ xs) (first seen has))
+
+-- what is drawn behind a drawing is one
+pub still_drawing : (plan : PlanData) (a b : Drawn) (xs : List Event) → IsDrawing plan a → Draws plan a b xs → IsDrawing plan b
+still_drawing plan a b xs (seen, has) draws = (seen ++ xs, draws seen has)
+
+-- the event of one element more
+pub draws_more : {X : Type 0} (plan : PlanData) (a b c : Drawn) (event : X → Event) (xs : List X) (i : ℕ) (x d : X) → i < length xs → x ≡ get_or xs i d
+    → Draws plan a b (map event (take i xs)) → Draws plan b c (event x ∷ []) → Draws plan a c (map event (take (i + 1) xs))
+draws_more {X = X} plan a b c event xs i x d within is draws draw =
+    subst (λ (l : List Event). Draws plan a c l)
+    (sym (ap (map event) (take_more xs i d within) ∙ map-append event (take i xs) (get_or xs i d ∷ [])))
+    (draws_then plan a b c (map event (take i xs)) (event (get_or xs i d) ∷ []) draws (subst (λ (y : X). Draws plan b c (event y ∷ [])) is draw))
+
+-- the events of all elements
+pub draws_whole : {X : Type 0} (plan : PlanData) (a b : Drawn) (event : X → Event) (xs : List X) (i : ℕ) → length xs ≤ i → Draws plan a b (map event (take i xs)) → Draws plan a b (map event xs)
+draws_whole {X = X} plan a b event xs i past = subst (λ (l : List X). Draws plan a b (map event l)) (take_all i xs past)
 
 pub draws_none : (plan : PlanData) (a : Drawn) → Draws plan a a []
 draws_none plan a seen has = subst (λ (l : List Event). HasDrawn plan l a) (sym (append-nil seen)) has

@@ -1,7 +1,7 @@
 -- References given up one after another.
-use Rattle.std.proofs.Common.{◌≡◌, ℕ, zero, suc, ◌+◌, ◌<◌, ◌≤◌, ◌==◌, List, [], ◌∷◌, ◌++◌, Bool, true, Option, Some, None, length, get_or, slice_set, map, take, refl, arith, ap, sym, ◌∙◌, inl, inr, subst, eqb-true, eq-eqb, append_assoc}
+use Rattle.std.proofs.Common.{◌≡◌, ℕ, ◌+◌, ◌<◌, ◌≤◌, ◌==◌, List, [], ◌∷◌, ◌++◌, Bool, true, Option, Some, None, length, get_or, slice_set, map, take, arith, ap, sym, ◌∙◌, inl, inr, subst, eqb-true, eq-eqb, append_assoc}
 use Rattle.std.proofs.lemmas.Bool.{cases_Bool, false≢true}
-use Rattle.std.proofs.lemmas.List.{get_or-set_other, length-set, take_more, map-append}
+use Rattle.std.proofs.lemmas.List.{get_or-set_other, length-set, take_more, take_all, map-append}
 use Rattle.rh_plan.specs.declared.outcome.Trial.{Trial}
 use Rattle.rh_plan.specs.declared.outcome.Verdict.{Verdict}
 use Rattle.rh_plan.specs.Plans.{PlanData}
@@ -52,18 +52,12 @@ released_more plan a b c first second third v i d qs within draws keeps draw kee
       subst (λ (l : List Event). KeepsWords plan a first third l) (sym whole) (keeps_then plan a b first second third (gives_up v (take i qs)) (Release (get_or qs i d) (Some v) ∷ []) draws keeps keep),
     )
 
-take_past : {X : Type 0} (n : ℕ) (xs : List X) → length xs ≤ n → take n xs ≡ xs
-take_past zero [] few = refl
-take_past zero (x ∷ xs) few = absurd (omega arith)
-take_past (suc n) [] few = refl
-take_past {X = X} (suc n) (x ∷ xs) few = ap (λ (l : List X). x ∷ l) (take_past n xs (omega arith))
-
 -- all releases
 pub released_whole : (plan : PlanData) (a b : Drawn) (first second : List (Option (List ℕ))) (v i : ℕ) (qs : List ℕ) → length qs ≤ i
     → Draws plan a b (gives_up v (take i qs)) → KeepsWords plan a first second (gives_up v (take i qs)) → Draws plan a b (gives_up v qs) × KeepsWords plan a first second (gives_up v qs)
 released_whole plan a b first second v i qs past draws keeps = (
-  subst (λ (l : List ℕ). Draws plan a b (gives_up v l)) (take_past i qs past) draws,
-  subst (λ (l : List ℕ). KeepsWords plan a first second (gives_up v l)) (take_past i qs past) keeps,
+  subst (λ (l : List ℕ). Draws plan a b (gives_up v l)) (take_all i qs past) draws,
+  subst (λ (l : List ℕ). KeepsWords plan a first second (gives_up v l)) (take_all i qs past) keeps,
 )
 
 -- all events of a node

@@ -32,11 +32,7 @@ impl History {
     pub(crate) fn new(alloc: Global, plan: &Plan) -> Result<History, OutOfMemory>
         ensures { IfOk result (λ h. HasDrawn plan.now [] h) }
     {
-        let count = plan.promises() as usize;
-        let mut gone = Vec::with_capacity(alloc, count)?;
-        for _ in 0..count {
-            gone.push(0)?;
-        }
+        let gone = vec![in alloc; 0u64; plan.promises() as usize]?;
         let entries = Vec::with_capacity(alloc, usual_count(plan))?;
         Ok(History { entries, gone })
     }
@@ -169,7 +165,6 @@ fn count(entries: &Vec<Entry>) -> u64
 }
 
 /// How many references a promise has.
-#[tactic(auto, unfolding(rh_journal::specs::Own::references_of))]
 fn references(plan: &Plan, promise: u32) -> u64
     requires { promise < length plan.now.promises }
     ensures { result ≡ references_of plan.now promise }

@@ -113,8 +113,7 @@ impl Progress {
             verdicts,
             history,
             values,
-        )?;
-        Ok(())
+        )
     }
 
     /// The outcome, when all nodes have ended.
@@ -174,7 +173,7 @@ fn ending_of(
     })
 }
 
-/// Draws the events of a node, when its puts are there. The words of a promise go with its last reference.
+/// Draws the events of a node, when its puts are there, and notes its verdict. The words of a promise go with its last reference.
 fn tell_ended(
     plan: &Plan,
     node: u32,

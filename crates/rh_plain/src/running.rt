@@ -154,9 +154,17 @@ fn cause_of(plan: &Plan, node: u32, verdicts: &[Verdict], values: &Values) -> Op
 {
     let _known = plan.nodes();
     let awaits = plan.awaits(node);
-    let opened = has_opened(verdicts, plan.group_of(node));
     let present = are_present(values, awaits);
-    plan.blame(node, opened, &present[..awaits.len()])
+    blame(plan, node, verdicts, &present[..awaits.len()])
+}
+
+/// The same, given which of the awaited promises have words.
+fn blame(plan: &Plan, node: u32, verdicts: &[Verdict], present: &[bool]) -> Option<Cause>
+    requires { node < length plan.now.nodes }
+    ensures { OfNode plan.now node (λ n. result ≡ blamed n.group (has_opened verdicts.now n.group) n.awaits present.now) }
+{
+    let opened = has_opened(verdicts, plan.group_of(node));
+    plan.blame(node, opened, present)
 }
 
 /// For each awaited promise, of which there are at most 16, whether it has words.

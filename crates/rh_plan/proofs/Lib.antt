@@ -27,6 +27,7 @@ pub mod SaidNames
 pub mod SaidForms
 pub mod SaidPlans
 pub mod FaultPlaces
+pub mod EdgeLists
 pub mod LocalLens
 pub mod TaskTables
 pub mod FaultTasks

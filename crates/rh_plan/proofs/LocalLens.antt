@@ -1,5 +1,5 @@
 -- The lengths of the locals of a task, one after another.
-use Rattle.std.proofs.Common.{◌≡◌, ℕ, zero, suc, unwrap_or, ◌+◌, ◌≤◌, List, [], ◌∷◌, ◌++◌, Bool, true, false, cond, Option, Some, None, length, map, ap, sym, ◌∙◌, subst, arith, refl}
+use Rattle.std.proofs.Common.{◌≡◌, ℕ, zero, suc, unwrap_or, ◌+◌, ◌<◌, ◌≤◌, List, [], ◌∷◌, ◌++◌, Bool, true, false, cond, Option, Some, None, length, map, ap, sym, ◌∙◌, subst, arith, refl, get_or, drop, drop-cons}
 use Rattle.std.specs.Option.{option_map}
 use Rattle.std.proofs.lemmas.List.{get_or-map, get_or_past, length-map}
 use Rattle.std.proofs.lemmas.Option.{slice_get_within, get_or_from_slice_get}
@@ -48,6 +48,15 @@ pub first_sound : (shapes : List Shape) (promises lens : List ℕ) (step : Step)
 first_sound shapes promises lens step left rest whole is measuring =
     let here = subst (λ (l : List Step). IsMeasuring shapes promises lens l whole) is measuring in
     (here.sound.0, record { made = here.made; sound = here.sound.1 })
+
+-- the step of this number
+pub next_sound : (shapes : List Shape) (promises lens : List ℕ) (steps items : List Step) (i : ℕ) (step d : Step) (whole : List ℕ) → items ≡ steps → i < length items → step ≡ get_or items i d → IsMeasuring shapes promises lens (drop i steps) whole
+    → IsSoundStep shapes promises lens step × IsMeasuring shapes promises (lens_after shapes lens step) (drop (i + 1) steps) whole
+next_sound shapes promises lens steps items i step d whole same within is measuring =
+    let more : suc i ≡ i + 1 = omega arith in
+    first_sound shapes promises lens step (drop i steps) (drop (i + 1) steps) whole
+    (ap (drop i) (sym same) ∙ drop-cons items i d within ∙ ap (λ (s : Step). s ∷ drop (suc i) items) (sym is) ∙ ap (λ (j : ℕ). step ∷ drop j items) more ∙ ap (λ (l : List Step). step ∷ drop (i + 1) l) same)
+    measuring
 
 -- the name of a promise that is there, and of one that is not
 pub named_there : (promises : List PlannedPromise) (q : ℕ) (p : PlannedPromise) (name : List ℕ) → slice_get promises q ≡ Some p → bytes_eq p.name name ≡ bytes_eq (name_at promises q) name

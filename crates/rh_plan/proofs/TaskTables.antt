@@ -11,7 +11,7 @@ use Rattle.std.proofs.lemmas.Slice.Eq.{bytes_eq-Decides}
 use Rattle.rh_words.specs.Naming.{is_name}
 use Rattle.rh_words.specs.NameKeys.{name_key, keys_eq}
 use Rattle.rh_words.specs.declared.name_key.NameKey.{NameKey}
-use Rattle.rh_tables.proofs.NameKeys.{KeysTellNames, keys_equal}
+use Rattle.rh_words.specs.NameKeys.{KeysTellNames}
 use Rattle.rh_tables.proofs.FirstPlaces.{place_or, position_push}
 use Rattle.rh_rules.specs.declared.node.Node.{Node}
 use Rattle.rh_rules.specs.Lawful.{is_task}
@@ -55,7 +55,7 @@ first_of_name nodes at d name distinct within is = none_or (task_among (take at 
 -- one more node
 pub numbered_more : {S : Type 0} → KeysTellNames → (old new : HashMap NameKey ℕ S) (nodes : List Node) (at : ℕ) (node : Node) → at < length nodes → node ≡ get_or nodes at node → is_name node.name ≡ true → IsDistinct bytes_eq (map (λ n. n.name) nodes) → AreTasksNumbered old (take at nodes) → IsTaskNoted old new node at → AreTasksNumbered new (take (at + 1) nodes)
 numbered_more law old new nodes at node within is named distinct numbered noted name is_it =
-    let key : keys_eq (name_key node.name) (name_key name) ≡ bytes_eq node.name name = keys_equal law node.name name named is_it in
+    let key : keys_eq (name_key node.name) (name_key name) ≡ bytes_eq node.name name = law node.name name named is_it in
     let long : length (take at nodes) ≡ at = length-take-le at nodes (omega arith) in
     noted name
     ∙ ap (λ t. cond (is_task node.kind && t) (Some at) (number_known old name)) key

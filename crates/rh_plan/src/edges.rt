@@ -11,7 +11,6 @@ use rh_words::OutOfMemory;
 use std::alloc::Global;
 
 /// The edges into the nodes: node by node, and in the order of each node's in-edges.
-#[tactic(auto, using(std::proofs::Common::append_assoc))]
 pub fn edges_of(
     alloc: Global,
     promises: &[PlannedPromise],
@@ -81,7 +80,6 @@ fn push_awaits(
 }
 
 /// Adds the edges on which the node `to` learns how these nodes ended.
-#[tactic(auto, using(std::proofs::Common::append_assoc))]
 fn push_orders(edges: &mut Vec<Edge>, to: u32, sources: &[u32]) -> Result<(), OutOfMemory>
     ensures { OnOk result (edges.new.items ≡ edges.old.items ++ map (order_edge to) sources.now) }
 {

@@ -61,7 +61,7 @@ pub fn accepted_buffers_follow_bodies()
     ensures { AcceptedBuffersFollowBodies }
 {}
 
-/// No node has more than 8 trials.
+/// No node has more trials than a task may have replays.
 pub fn few_trials()
     ensures { FewTrials }
 {}

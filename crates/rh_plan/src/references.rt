@@ -43,10 +43,17 @@ fn own_references(alloc: Global, promises: &[PlannedPromise]) -> Result<Vec<u64>
 {
     let mut counts = Vec::with_capacity(alloc, promises.len())?;
     for promise in promises {
-        let own = if is_shown(promise) { 2 } else { 1 };
-        counts.push(own)?;
+        counts.push(own_count(promise))?;
     }
     Ok(counts)
+}
+
+/// The references that the putter of a promise and the report have.
+fn own_count(promise: &PlannedPromise) -> u64
+    ensures value { result ≡ 1 + (if is_shown promise.now then 1 else 0) }
+    ensures low { result ≤ 2 }
+{
+    if is_shown(promise) { 2 } else { 1 }
 }
 
 /// Counts the edge at the promise that it carries.

@@ -14,6 +14,7 @@ use Rattle.rh_rules.specs.Facets.{facets}
 use Rattle.rh_rules.specs.Above.{Look, Facts, matrix_used, numbers_used, local_made, with_row}
 use Rattle.rh_rules.specs.Rules.{reason_in}
 use Rattle.rh_planner.specs.declared.planner.Planner.{Planner}
+use Rattle.rh_tables.specs.declared.line_use.LineUse.{LineUse}
 use Rattle.rh_tables.specs.declared.open_task.OpenTask.{OpenTask}
 use Rattle.rh_planner.specs.Planned.{look_above}
 use Rattle.rh_planner.specs.States.{HasFacts, Judges, facts_of}
@@ -85,15 +86,15 @@ reason_let look f (text.LetProduct x a v) y e = ap (λ z. let_reason f.matrices 
 reason_let look f s y e = absurd (none-some y e)
 
 -- a `let` that changes the open task alone is judged
-pub judges_let : (result : Result (Option Reason) OutOfMemory) (old : Planner) (task : OpenTask) (s : Statement) (x : List ℕ) (ms : List NamedShape) → ms ≡ old.matrices.items → (facets s).made ≡ Some x
+pub judges_let : (result : Result (Option Reason) OutOfMemory) (old : Planner) (task : OpenTask) (line : LineUse) (s : Statement) (x : List ℕ) (ms : List NamedShape) → ms ≡ old.matrices.items → (facets s).made ≡ Some x
     → IfOk result (λ a. a ≡ let_reason ms old.task.locals.items old.task.drops.items x s)
     → task.inputs ≡ old.task.inputs → task.drops.items ≡ old.task.drops.items → task.scheme ≡ old.task.scheme → task.checks ≡ old.task.checks
     → IfOk result (λ a. a ≡ None → task.locals.items ≡ old.task.locals.items ++ local_made ms old.task.locals.items s)
     → IfOk result (λ a. a ≡ None → task.body ≡ old.task.body ++ option_to_list ((facets s).step (matrix_used ms s) (numbers_used old.task.locals.items s)))
-    → IfOk result (λ a. Judges old s (record old { task = task }) a)
-judges_let (Ok a) old task s x ms same makes reason inputs drops scheme checks locals steps = record {
+    → IfOk result (λ a. Judges old s (record old { task = task; line = line }) a)
+judges_let (Ok a) old task line s x ms same makes reason inputs drops scheme checks locals steps = record {
   reason = reason ∙ ap (λ (l : List NamedShape). let_reason l old.task.locals.items old.task.drops.items x s) same ∙ sym (reason_let (look_above old.handed) (facts_of old) s x makes);
-  tables = λ none. subst (HasFacts (record old { task = task })) (sym (after_let (look_above old.handed) (facts_of old) s x makes)) (record {
+  tables = λ none. subst (HasFacts (record old { task = task; line = line })) (sym (after_let (look_above old.handed) (facts_of old) s x makes)) (record {
     names = refl;
     promises = refl;
     matrices = refl;
@@ -111,4 +112,4 @@ judges_let (Ok a) old task s x ms same makes reason inputs drops scheme checks l
   });
   handed = refl;
 }
-judges_let (Err e) old task s x ms same makes reason inputs drops scheme checks locals steps = tt
+judges_let (Err e) old task line s x ms same makes reason inputs drops scheme checks locals steps = tt

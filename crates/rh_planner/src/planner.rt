@@ -10,7 +10,7 @@ ghost use Rattle.rh_rules.specs.Above.{facts_above, planned_scheme, asked_place,
 ghost use Rattle.rh_rules.specs.Rules.{is_bad_scheme, is_unanswered};
 ghost use Rattle.rh_rules.specs.Tables.{is_promise, promise_number, is_put, putting, put_all};
 ghost use Rattle.rh_tables.specs.Declarations.{declarations};
-ghost use Rattle.rh_tables.specs.Making.{start_reason};
+ghost use Rattle.rh_tables.specs.Making.{start_reason, node_reason};
 ghost use Rattle.rh_planner.specs.Planned.{look_above};
 ghost use Rattle.std.specs.List.{list_any, AllByRecursion};
 ghost use Rattle.rh_planner.specs.States.{HasFacts, HasRoom, IsClosable, Judges, TakesRow};
@@ -23,8 +23,8 @@ use rh_rules::{
 };
 use rh_sparse::{Cell, Matrix};
 use rh_tables::{
-    Blocks, Declared, Handed, OpenTask, add_row, are_distinct, await_locals, close_matrix,
-    find_promises, group_node, is_any_unput, lets_of, scope_node, task_node,
+    Blocks, Declared, Handed, LineUse, OpenTask, add_row, are_distinct, await_locals, await_reason,
+    close_matrix, group_node, lets_of, scope_node, task_node,
 };
 use rh_task_text::{SchemeText, Statement};
 use rh_words::limits::{MAX_MATRICES, MAX_NODES, MAX_REPLAYS};
@@ -46,6 +46,8 @@ pub struct Planner {
     nodes: Vec<Node>,
     blocks: Blocks,
     task: OpenTask,
+    /// What the last line uses.
+    line: LineUse,
 }
 
 impl Planner {
@@ -64,6 +66,7 @@ impl Planner {
             nodes: Vec::new(alloc),
             blocks: Blocks::new(alloc),
             task: OpenTask::none(alloc),
+            line: LineUse::none(alloc),
         }
     }
 
@@ -83,6 +86,7 @@ impl Planner {
             nodes,
             blocks: _,
             task: _,
+            line: _,
         } = self;
         Drafts {
             nodes,
@@ -130,7 +134,8 @@ impl Planner {
         requires makes { (facets statement.now).made ≡ Some x }
         ensures { IfOk result (λ answer. Judges self.old statement.now self.new answer) }
     {
-        self.task.make(alloc, &self.matrices, x, statement)
+        self.task
+            .make(alloc, &mut self.line, &self.matrices, x, statement)
     }
 
     /// Opens a scope, whose own promise has three words.
@@ -199,51 +204,6 @@ impl Planner {
         Ok(None)
     }
 
-    /// Declares a task of this name and scheme, or a group as if it were plain, that awaits these, or says why it is refused. The open
-    /// task then has the numbers of what it awaits.
-    #[tactic(auto, using(rh_tables::proofs::Using::is_put_numbers))]
-    fn start(
-        &mut self,
-        alloc: Global,
-        name: Name,
-        scheme: SchemeText,
-        names: &[Name],
-    ) -> Result<Option<Reason>, OutOfMemory>
-        ensures reason { IfOk result (λ answer. answer ≡ start_reason self.old.declared.names self.old.declared.promises (length self.old.nodes.items) name scheme names.now) }
-        ensures inputs { IfOk result (λ answer. answer ≡ None → self.new.task.inputs ≡ map (promise_number self.old.declared.promises) names.now) }
-        ensures known { IfOk result (λ answer. answer ≡ None → list_any (λ q. not (is_promise self.old.declared.promises q)) names.now ≡ false) }
-        ensures schemed { IfOk result (λ answer. answer ≡ None → is_bad_scheme scheme ≡ false) }
-        ensures declared { IfOk result (λ answer. answer ≡ None → self.new.declared ≡ declarations (self.old.declared.names ++ name ∷ []) self.old.declared.promises) }
-        ensures locals { self.new.task.locals.items ≡ [] }
-        ensures drops { self.new.task.drops.items ≡ [] }
-        ensures body { self.new.task.body ≡ [] }
-        ensures scheme { self.new.task.scheme ≡ Plain }
-        ensures checks { self.new.task.checks ≡ [] }
-        ensures handed { self.new.handed ≡ self.old.handed }
-        ensures matrices { self.new.matrices ≡ self.old.matrices }
-        ensures closed { self.new.closed ≡ self.old.closed }
-        ensures nodes { self.new.nodes ≡ self.old.nodes }
-        ensures blocks { self.new.blocks ≡ self.old.blocks }
-    {
-        self.task.clear(alloc);
-        if !self.declared.add_name(name)? || !are_distinct(names) {
-            return Ok(Some(Reason::Twice));
-        }
-        if !find_promises(&self.declared, names, &mut self.task.inputs)? {
-            return Ok(Some(Reason::Unknown));
-        }
-        if is_any_unput(self.declared.promises(), self.task.inputs.as_slice()) {
-            return Ok(Some(Reason::Order));
-        }
-        if is_bad_scheme(scheme) {
-            return Ok(Some(Reason::Scheme));
-        }
-        if self.nodes.len() >= MAX_NODES {
-            return Ok(Some(Reason::PlanLimit));
-        }
-        Ok(None)
-    }
-
     /// Opens a task, whose awaits look at what stands above.
     #[tactic(auto, using(crate::proofs::Tasks::reason_task), unfolding(rh_rules::specs::Facets::facets))]
     fn task(
@@ -255,8 +215,11 @@ impl Planner {
     ) -> Result<Option<Reason>, OutOfMemory>
         ensures { IfOk result (λ answer. Judges self.old (text.Task name scheme awaits.now) self.new answer) }
     {
+        self.task.clear(alloc);
         let names = awaits.as_slice();
-        if let Some(reason) = self.start(alloc, name, scheme, names)? {
+        let count = self.nodes.len();
+        let inputs = &mut self.task.inputs;
+        if let Some(reason) = start(&mut self.declared, inputs, count, name, scheme, names)? {
             return Ok(Some(reason));
         }
         self.task.scheme = planned_scheme(scheme);
@@ -279,10 +242,15 @@ impl Planner {
         requires { HasRoom self.old }
         ensures { IfOk result (λ answer. Judges self.old (text.Group name awaits.now) self.new answer) }
     {
-        if let Some(reason) = self.start(alloc, name, SchemeText::Plain, awaits.as_slice())? {
+        self.task.clear(alloc);
+        let names = awaits.as_slice();
+        let count = self.nodes.len();
+        let scheme = SchemeText::Plain;
+        let inputs = &mut self.task.inputs;
+        if let Some(reason) = start(&mut self.declared, inputs, count, name, scheme, names)? {
             return Ok(Some(reason));
         }
-        let number = self.nodes.len() as u32;
+        let number = count as u32;
         let inputs = mem::replace(&mut self.task.inputs, Numbers::new(alloc));
         let node = group_node(alloc, name, inputs, self.blocks.group());
         self.nodes.push(node)?;
@@ -302,10 +270,13 @@ impl Planner {
             return Ok(Some(Reason::Unknown));
         };
         let planned = &self.declared.promises()[number as usize];
-        if let Some(reason) = self.task.put_reason(&self.matrices, planned, statement)? {
+        if let Some(reason) = self
+            .line
+            .put_reason(&self.task, &self.matrices, planned, statement)?
+        {
             return Ok(Some(reason));
         }
-        self.task.body.push(put_step(number, &self.task.numbers))?;
+        self.task.body.push(put_step(number, &self.line.numbers))?;
         self.declared.put(number, self.nodes.len() as u32);
         Ok(None)
     }
@@ -326,23 +297,23 @@ impl Planner {
         };
         let len = self.declared.promises()[number as usize].len;
         if let Some(reason) = self
-            .task
-            .check_reason(&self.matrices, number, len, statement)?
+            .line
+            .check_reason(&self.task, &self.matrices, number, len, statement)?
         {
             return Ok(Some(reason));
         }
         let Some(place) = asked_place(&self.handed, statement) else {
             return Ok(Some(Reason::NoCheck));
         };
-        let matrix = self.task.matrix;
+        let matrix = self.line.matrix;
         let spec = spec_of(
             statement,
             place,
             matrix.number,
-            &self.task.numbers,
+            &self.line.numbers,
             matrix.shape,
             len,
-            &self.task.lens,
+            &self.line.lens,
         );
         let user = self.handed.named(&spec);
         let check = PlannedCheck {
@@ -364,61 +335,29 @@ impl Planner {
             return Ok(Some(Reason::Scheme));
         }
         let block = self.blocks.pop();
+        let group = self.blocks.group();
         match &block {
-            Some(OpenBlock::TaskBlock(name)) => self.end_task(alloc, *name)?,
+            Some(OpenBlock::TaskBlock(name)) => {
+                end_task(alloc, &mut self.nodes, &mut self.task, group, *name)?;
+            }
             Some(OpenBlock::ScopeBlock { name, first }) => {
                 if self.nodes.len() >= MAX_NODES {
                     return Ok(Some(Reason::PlanLimit));
                 }
-                self.end_scope(alloc, *name, *first)?;
+                end_scope(
+                    alloc,
+                    &mut self.nodes,
+                    &mut self.declared,
+                    group,
+                    *name,
+                    *first,
+                )?;
             }
             _ => {}
         }
         close_matrix(alloc, &mut self.closed, self.begun.take())?;
         self.task.clear(alloc);
         Ok(None)
-    }
-
-    /// Adds the node of the task, which ends.
-    fn end_task(&mut self, alloc: Global, name: Name) -> Result<(), OutOfMemory>
-        ensures nodes { OnOk result (self.new.nodes.items ≡ self.old.nodes.items ++ task_node name self.old.task.scheme self.old.task.inputs (lets_of self.old.task.inputs self.old.task.locals.items) (group_in self.old.blocks) self.old.task.body self.old.task.checks ∷ []) }
-        ensures blocks { self.new.blocks ≡ self.old.blocks }
-        ensures declared { self.new.declared ≡ self.old.declared }
-        ensures handed { self.new.handed ≡ self.old.handed }
-        ensures matrices { self.new.matrices ≡ self.old.matrices }
-        ensures closed { self.new.closed ≡ self.old.closed }
-        ensures begun { self.new.begun ≡ self.old.begun }
-    {
-        let lets = lets_of(alloc, self.task.inputs.as_slice(), &self.task.locals)?;
-        let inputs = mem::replace(&mut self.task.inputs, Numbers::new(alloc));
-        let body = mem::replace(&mut self.task.body, Body::new(alloc));
-        let checks = mem::replace(&mut self.task.checks, CheckList::new(alloc));
-        let scheme = self.task.scheme;
-        let group = self.blocks.group();
-        let node = task_node(alloc, name, scheme, inputs, lets, group, body, checks)?;
-        self.nodes.push(node)?;
-        Ok(())
-    }
-
-    /// Adds the node of the scope, which ends and puts its own promise.
-    fn end_scope(&mut self, alloc: Global, name: Name, first: u32) -> Result<(), OutOfMemory>
-        requires few { length self.old.nodes.items ≤ MAX_NODES }
-        requires own { is_promise self.old.declared.promises name ≡ true }
-        requires unput { is_put self.old.declared.promises name ≡ false }
-        ensures nodes { OnOk result (self.new.nodes.items ≡ self.old.nodes.items ++ scope_node name (promise_number self.old.declared.promises name) (group_in self.old.blocks) first (length self.old.nodes.items) ∷ []) }
-        ensures blocks { self.new.blocks ≡ self.old.blocks }
-        ensures declared { self.new.declared ≡ declarations self.old.declared.names (put_all (putting name (length self.old.nodes.items) ∷ []) self.old.declared.promises) }
-        ensures handed { self.new.handed ≡ self.old.handed }
-        ensures matrices { self.new.matrices ≡ self.old.matrices }
-        ensures closed { self.new.closed ≡ self.old.closed }
-        ensures begun { self.new.begun ≡ self.old.begun }
-    {
-        let number = self.nodes.len() as u32;
-        let own = self.declared.promise(&name).unwrap_or(0);
-        self.declared.put(own, number);
-        let node = scope_node(alloc, name, own, self.blocks.group(), first, number)?;
-        self.nodes.push(node)?;
-        Ok(())
     }
 }
 
@@ -459,6 +398,85 @@ impl Planner {
             _ => unreachable!(),
         }
     }
+}
+
+/// Declares a task of this name and scheme, or a group as if it were plain, that awaits these, below so many nodes, or says why it is
+/// refused. The inputs are then the numbers of what it awaits.
+fn start(
+    declared: &mut Declared,
+    inputs: &mut Numbers,
+    count: usize,
+    name: Name,
+    scheme: SchemeText,
+    names: &[Name],
+) -> Result<Option<Reason>, OutOfMemory>
+    requires none { inputs.old ≡ [] }
+    ensures reason { IfOk result (λ answer. answer ≡ start_reason declared.old.names declared.old.promises count name scheme names.now) }
+    ensures inputs { IfOk result (λ answer. answer ≡ None → inputs.new ≡ map (promise_number declared.old.promises) names.now) }
+    ensures declared { IfOk result (λ answer. answer ≡ None → declared.new ≡ declarations (declared.old.names ++ name ∷ []) declared.old.promises) }
+{
+    if !declared.add_name(name)? || !are_distinct(names) {
+        return Ok(Some(Reason::Twice));
+    }
+    if let Some(reason) = await_reason(declared, inputs, names)? {
+        return Ok(Some(reason));
+    }
+    Ok(node_reason(count, scheme))
+}
+
+/// Why a node of this scheme is refused below so many nodes.
+fn node_reason(count: usize, scheme: SchemeText) -> Option<Reason>
+    ensures { result ≡ node_reason count scheme }
+{
+    if is_bad_scheme(scheme) {
+        Some(Reason::Scheme)
+    } else if count >= MAX_NODES {
+        Some(Reason::PlanLimit)
+    } else {
+        None
+    }
+}
+
+/// Adds the node of the task in this group, which ends.
+fn end_task(
+    alloc: Global,
+    nodes: &mut Vec<Node>,
+    task: &mut OpenTask,
+    group: Option<u32>,
+    name: Name,
+) -> Result<(), OutOfMemory>
+    ensures { OnOk result (nodes.new.items ≡ nodes.old.items ++ task_node name task.old.scheme task.old.inputs (lets_of task.old.inputs task.old.locals.items) group task.old.body task.old.checks ∷ []) }
+{
+    let lets = lets_of(alloc, task.inputs.as_slice(), &task.locals)?;
+    let inputs = mem::replace(&mut task.inputs, Numbers::new(alloc));
+    let body = mem::replace(&mut task.body, Body::new(alloc));
+    let checks = mem::replace(&mut task.checks, CheckList::new(alloc));
+    let node = task_node(alloc, name, task.scheme, inputs, lets, group, body, checks)?;
+    nodes.push(node)?;
+    Ok(())
+}
+
+/// Adds the node of the scope in this group, which ends and puts its own promise.
+fn end_scope(
+    alloc: Global,
+    nodes: &mut Vec<Node>,
+    declared: &mut Declared,
+    group: Option<u32>,
+    name: Name,
+    first: u32,
+) -> Result<(), OutOfMemory>
+    requires few { length nodes.old.items ≤ MAX_NODES }
+    requires own { is_promise declared.old.promises name ≡ true }
+    requires unput { is_put declared.old.promises name ≡ false }
+    ensures nodes { OnOk result (nodes.new.items ≡ nodes.old.items ++ scope_node name (promise_number declared.old.promises name) group first (length nodes.old.items) ∷ []) }
+    ensures declared { OnOk result (declared.new ≡ declarations declared.old.names (put_all (putting name (length nodes.old.items) ∷ []) declared.old.promises)) }
+{
+    let number = nodes.len() as u32;
+    let own = declared.promise(&name).unwrap_or(0);
+    declared.put(own, number);
+    let node = scope_node(alloc, name, own, group, first, number)?;
+    nodes.push(node)?;
+    Ok(())
 }
 
 /// The name of the promise that the statement checks.

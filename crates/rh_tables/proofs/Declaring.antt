@@ -8,10 +8,6 @@ use Rattle.std.specs.Cmp.Lexicographic.{nat_list_eq_equiv}
 use Rattle.std.specs.Str.{bytes_eq}
 use Rattle.std.specs.HashMap.{HashMap}
 use Rattle.std.specs.Map.{lookup}
-use Rattle.std.specs.Result.{IfOk, OnErr}
-use Rattle.std.specs.declared.result.Result.{Result}
-use Rattle.std.proofs.Common.{Ok, Err}
-use Rattle.rh_words.specs.declared.reason.OutOfMemory.{OutOfMemory}
 use Rattle.rh_words.specs.declared.name_key.NameKey.{NameKey}
 use Rattle.rh_words.specs.NameKeys.{name_key, keys_eq}
 use Rattle.std.specs.List.{position, list_any, IsDistinct, AllByRecursion}
@@ -29,7 +25,7 @@ use Rattle.rh_rules.specs.Above.{words_in, shown_in}
 use Rattle.rh_rules.specs.Rules.{is_promise_over}
 use Rattle.rh_tables.specs.Declarations.{AreFound, IsNoted, at_name, number_found}
 use Rattle.rh_words.specs.Naming.{is_name}
-use Rattle.rh_tables.proofs.NameKeys.{KeysTellNames, keys_equal}
+use Rattle.rh_words.specs.NameKeys.{KeysTellNames}
 use Rattle.rh_rules.specs.Tables.{or_else, given}
 use Rattle.rh_tables.proofs.FirstPlaces.{place_or, first_place, next_place, position_push, position-first, position_map, is_some_position}
 
@@ -41,7 +37,7 @@ same_name a b h = (bytes_eq-Decides a b).0 h
 
 -- a look-up after an insertion, by the bytes
 inserted_at : KeysTellNames → {S : Type 0} (old new : Known S) (name : List ℕ) (number : Option ℕ) → is_name name ≡ true → IsNoted old new name number → (q : List ℕ) → is_name q ≡ true → at_name new q ≡ cond (bytes_eq name q) (Some number) (at_name old q)
-inserted_at law old new name number is h q named = h q ∙ ap (λ t. cond t (Some number) (at_name old q)) (keys_equal law name q is named)
+inserted_at law old new name number is h q named = h q ∙ ap (λ t. cond t (Some number) (at_name old q)) (law name q is named)
 
 some_or : (t : Bool) (n : Option ℕ) (o : Option (Option ℕ)) (u : Bool) → is_some o ≡ u → is_some (cond t (Some n) o) ≡ (u || (t || false))
 some_or true n o true h = refl
@@ -95,22 +91,6 @@ same_found old new names promises w s same found = record {
   total = found.total;
   shown_total = found.shown_total;
 }
-
-pub fresh_name : (names : List (List ℕ)) (name : List ℕ) (o : Option (Option ℕ)) → is_some o ≡ is_among name names → true ≡ not (is_some o) → is_among name names ≡ false
-fresh_name names name None there fresh = sym there
-fresh_name names name (Some n) there fresh = absurd (false≢true (sym fresh))
-
--- after a name is added or is not, by what was answered
-pub noted_found : KeysTellNames → {S : Type 0} (old new : Known S) (names more : List (List ℕ)) (promises : List PlannedPromise) (w s : ℕ) (name : List ℕ) → is_name name ≡ true → AreFound old names promises w s → (result : Result Bool OutOfMemory)
-    → IfOk result (λ added. added ≡ not (is_some (at_name old name))) → IfOk result (λ added. added ≡ true → more ≡ names ++ name ∷ []) → IfOk result (λ added. added ≡ true → IsNoted old new name None)
-    → IfOk result (λ added. added ≡ false → more ≡ names) → IfOk result (λ added. added ≡ false → new.entries ≡ old.entries) → OnErr result (more ≡ names) → OnErr result (new.entries ≡ old.entries)
-    → AreFound new more promises w s
-noted_found law old new names more promises w s name is found (Ok true) fresh added noted same same_known kept kept_known =
-    subst (λ (ns : List (List ℕ)). AreFound new ns promises w s) (sym (added refl)) (name_found law old new names promises w s name is found (fresh_name names name (at_name old name) (found.there name is) fresh) (noted refl))
-noted_found law old new names more promises w s name is found (Ok false) fresh added noted same same_known kept kept_known =
-    subst (λ (ns : List (List ℕ)). AreFound new ns promises w s) (sym (same refl)) (same_found old new names promises w s (same_known refl) found)
-noted_found law old new names more promises w s name is found (Err e) fresh added noted same same_known kept kept_known =
-    subst (λ (ns : List (List ℕ)). AreFound new ns promises w s) (sym kept) (same_found old new names promises w s kept_known found)
 
 number_added : (t : Bool) (n : ℕ) (o : Option (Option ℕ)) (p : Option ℕ) → number_found o ≡ p → (t ≡ true → p ≡ None) → number_found (cond t (Some (Some n)) o) ≡ place_or p (cond t (Some n) None)
 number_added true n o p h fresh = ap (λ x. place_or x (Some n)) (sym (fresh refl))

@@ -1,5 +1,4 @@
 pub mod FirstPlaces
-pub mod NameKeys
 pub mod Declaring
 pub mod Using
 pub mod Reading
@@ -8,3 +7,4 @@ pub mod Correctors
 pub mod Stepping
 pub mod SoundTasks
 pub mod Members
+pub mod Finding

@@ -1,15 +1,18 @@
 -- What a line uses, by the numbers of the locals.
-use Rattle.std.proofs.Common.{◌≡◌, ℕ, List, [], ◌∷◌, Bool, true, false, ◌||◌, not, Option, Some, None, map, refl, ap, ◌∙◌}
-use Rattle.std.specs.List.{list_any}
-use Rattle.std.specs.Prelude.{is_some, unwrap_or, slice_get, option_and_then}
+use Rattle.std.proofs.Common.{◌≡◌, ℕ, List, [], ◌∷◌, Bool, true, false, ◌||◌, not, Option, Some, None, map, length, cond, refl, ap, ◌∙◌}
+use Rattle.std.specs.List.{list_any, position_or_len}
+use Rattle.std.specs.Prelude.{is_some, unwrap_or, slice_get, option_and_then, nat_lt}
+use Rattle.std.specs.Str.{bytes_eq}
 use Rattle.std.proofs.lemmas.Bool.{false≢true, true≢false}
 use Rattle.rh_task_text.specs.declared.statement.Statement.{Statement}
 use Rattle.rh_rules.specs.Tables.{LocalName, if_any, is_in, place_of, is_local, number_of, promise_at, promise_named, promise_number, is_promise, is_put}
 use Rattle.rh_rules.specs.declared.node.PlannedPromise.{PlannedPromise}
 use Rattle.rh_rules.specs.declared.shape.NamedShape.{NamedShape}
 use Rattle.rh_rules.specs.Facets.{facets}
-use Rattle.rh_rules.specs.Above.{numbers_used}
-use Rattle.rh_tables.specs.Making.{uses_unknown, uses_dropped, names_no_matrix}
+use Rattle.rh_rules.specs.Rules.{is_among_first}
+use Rattle.rh_rules.specs.Above.{numbers_used, lens_used}
+use Rattle.rh_tables.specs.declared.matrices.Named.{Named}
+use Rattle.rh_tables.specs.Making.{IsNamed, let_reason, put_reason, let_use_reason, put_use_reason, uses_unknown, uses_dropped, names_no_matrix}
 
 pub not_false : (b : Bool) → not b ≡ false → b ≡ true
 not_false true e = refl
@@ -54,3 +57,27 @@ put_all_numbers ps (q ∷ names) e =
 pub is_put_numbers : (ps : List PlannedPromise) (names : List (List ℕ)) → list_any (λ q. not (is_promise ps q)) names ≡ false
     → list_any (λ q. not (is_put ps q)) names ≡ list_any (λ i. not (if_any (λ p. is_some p.putter) (slice_get ps i))) (map (promise_number ps) names)
 is_put_numbers ps names e = put_all_numbers ps names e
+
+-- a local is one of all locals
+within_all : (t : Bool) (i n : ℕ) → nat_lt i n ≡ t → if_any (λ j. nat_lt j n) (cond t (Some i) None) ≡ is_some (cond t (Some i) None)
+within_all true i n e = e
+within_all false i n e = refl
+
+among_one : (ls : List LocalName) (x : List ℕ) → is_among_first (length ls) ls x ≡ is_local ls x
+among_one ls x = let i = position_or_len (λ t. bytes_eq t.name x) ls in within_all (nat_lt i (length ls)) i (length ls) refl
+
+pub among_all : (ls : List LocalName) (xs : List (List ℕ)) → list_any (λ q. not (is_among_first (length ls) ls q)) xs ≡ list_any (λ x. not (is_local ls x)) xs
+among_all ls [] = refl
+among_all ls (x ∷ xs) =
+    ap (λ t. not t || list_any (λ q. not (is_among_first (length ls) ls q)) xs) (among_one ls x)
+    ∙ ap (λ t. not (is_local ls x) || t) (among_all ls xs)
+
+-- the reason of a `let` whose locals are there, by what is looked up
+pub let_by_use : (ms : List NamedShape) (ls : List LocalName) (drops : List ℕ) (x : List ℕ) (s : Statement) (m : Named) (numbers lens : List ℕ) → is_local ls x ≡ false → uses_unknown ms ls s ≡ false → IsNamed ms s m → numbers ≡ numbers_used ls s → lens ≡ lens_used ls s
+    → let_use_reason m numbers lens drops s ≡ let_reason ms ls drops x s
+let_by_use ms ls drops x s m numbers lens fresh known named numbers_is lens_is = rw (numbers_is, lens_is, named.shape, fresh, known, uses_dropped_numbers ms ls drops s known) refl
+
+-- and that of a `put`
+pub put_by_use : (p : PlannedPromise) (ms : List NamedShape) (ls : List LocalName) (drops : List ℕ) (s : Statement) (m : Named) (numbers lens : List ℕ) → uses_unknown ms ls s ≡ false → IsNamed ms s m → numbers ≡ numbers_used ls s → lens ≡ lens_used ls s
+    → put_use_reason p m numbers lens drops s ≡ put_reason p ms ls drops s
+put_by_use p ms ls drops s m numbers lens known named numbers_is lens_is = rw (numbers_is, lens_is, named.shape, known, uses_dropped_numbers ms ls drops s known) refl

@@ -40,6 +40,13 @@ let_reason ms ls drops x s =
     (cond (uses_dropped ls drops s) (Some reasons.Dropped)
     (cond (nat_lt MAX_PROMISE_WORDS (made_len ms ls s)) (Some reasons.PlanLimit) None))))
 
+-- of a `let` that uses this matrix and locals of these numbers and lengths
+abbrev pub let_use_reason : Named → List ℕ → List ℕ → List ℕ → Statement → Option Reason
+let_use_reason m numbers lens drops s =
+    cond (not ((facets s).fits m.shape lens)) (Some reasons.Length)
+    (cond (list_any (λ i. is_in i drops) numbers) (Some reasons.Dropped)
+    (cond (nat_lt MAX_PROMISE_WORDS ((facets s).len m.shape lens)) (Some reasons.PlanLimit) None))
+
 -- of a `put` of this promise, which is declared
 abbrev pub put_reason : PlannedPromise → List NamedShape → List LocalName → List ℕ → Statement → Option Reason
 put_reason p ms ls drops s =
@@ -47,6 +54,23 @@ put_reason p ms ls drops s =
     (cond (p.scope || is_some p.putter) (Some reasons.Owner)
     (cond (not (slice_index (lens_used ls s) 0 == p.len) || not ((facets s).fits (shape_used ms s) (lens_used ls s))) (Some reasons.Length)
     (cond (uses_dropped ls drops s) (Some reasons.Dropped) None)))
+
+-- of what awaits these
+abbrev pub await_reason : List PlannedPromise → List (List ℕ) → Option Reason
+await_reason promises awaits =
+    cond (list_any (λ q. not (is_promise promises q)) awaits) (Some reasons.Unknown)
+    (cond (list_any (λ q. not (is_put promises q)) awaits) (Some reasons.Order) None)
+
+-- of a node of this scheme below so many nodes
+abbrev pub node_reason : ℕ → SchemeText → Option Reason
+node_reason count scheme = cond (is_bad_scheme scheme) (Some reasons.Scheme) (cond (nat_le MAX_NODES count) (Some reasons.PlanLimit) None)
+
+-- of a `put` that uses this matrix and locals of these numbers and lengths
+abbrev pub put_use_reason : PlannedPromise → Named → List ℕ → List ℕ → List ℕ → Statement → Option Reason
+put_use_reason p m numbers lens drops s =
+    cond (p.scope || is_some p.putter) (Some reasons.Owner)
+    (cond (not (slice_index lens 0 == p.len) || not ((facets s).fits m.shape lens)) (Some reasons.Length)
+    (cond (list_any (λ i. is_in i drops) numbers) (Some reasons.Dropped) None))
 
 -- of a task of this name and scheme, or of a group as if it were plain, that awaits these, below so many nodes
 abbrev pub start_reason : List (List ℕ) → List PlannedPromise → ℕ → List ℕ → SchemeText → List (List ℕ) → Option Reason
@@ -75,6 +99,13 @@ check_reason number len body scheme checks n ms ls drops s =
     (cond (not ((facets s).suits (shape_used ms s) len (lens_read ls s))) (Some reasons.Length)
     (cond (not (may_check scheme) || asks_product s && (is_corrected scheme && has_product checks)) (Some reasons.Scheme)
     (cond (reads_dropped ls drops s) (Some reasons.Dropped) None)))
+
+-- of a check of a promise of this length that reads this matrix and awaits of these numbers and lengths
+abbrev pub check_use_reason : ℕ → Scheme → List KeptCheck → Named → List ℕ → List ℕ → List ℕ → Statement → Option Reason
+check_use_reason len scheme checks m numbers lens drops s =
+    cond (not ((facets s).suits m.shape len lens)) (Some reasons.Length)
+    (cond (not (may_check scheme) || asks_product s && (is_corrected scheme && has_product checks)) (Some reasons.Scheme)
+    (cond (list_any (λ i. is_in i drops) numbers) (Some reasons.Dropped) None))
 
 -- of a promise below these names and promises
 abbrev pub promise_reason : List (List ℕ) → List PlannedPromise → PlannedPromise → Option Reason

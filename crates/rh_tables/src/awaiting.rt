@@ -1,15 +1,16 @@
 //! Await lists.
 
-ghost use Rattle.std.specs.Prelude.{◌≡◌, ◌<◌, ◌≤◌, [], IfOk, Some, length, map, true, false, not, slice_get, is_some, unwrap_or};
+ghost use Rattle.std.specs.Prelude.{◌≡◌, ◌<◌, ◌≤◌, [], IfOk, None, Some, length, map, true, false, not, slice_get, is_some, unwrap_or};
 ghost use Rattle.std.specs.List.{list_any};
 ghost use Rattle.std.specs.Option.{option_map};
 ghost use Rattle.rh_rules.specs.Tables.{is_among, if_any, is_promise, promise_number, is_put, promise_len};
 ghost use Rattle.rh_rules.specs.Rules.{are_distinct};
 ghost use Rattle.rh_rules.specs.Above.{await_local};
+ghost use Rattle.rh_tables.specs.Making.{await_reason};
 
 use crate::declarations::Declared;
 use rh_rules::{Local, Numbers, PlannedPromise};
-use rh_words::{Name, OutOfMemory};
+use rh_words::{Name, OutOfMemory, Reason};
 
 /// Whether no name stands twice. A node awaits few promises, so each is compared with those behind it.
 pub fn are_distinct(names: &[Name]) -> bool
@@ -32,8 +33,28 @@ fn is_among(name: &Name, names: &[Name]) -> bool
     names.iter().any(|n| n.bytes() == name.bytes())
 }
 
+/// Why a node that awaits these is refused. Where it is not, the inputs are the numbers of what it awaits.
+#[tactic(auto, using(crate::proofs::Using::is_put_numbers))]
+pub fn await_reason(
+    declared: &Declared,
+    inputs: &mut Numbers,
+    names: &[Name],
+) -> Result<Option<Reason>, OutOfMemory>
+    requires none { inputs.old ≡ [] }
+    ensures reason { IfOk result (λ answer. answer ≡ await_reason declared.now.promises names.now) }
+    ensures inputs { IfOk result (λ answer. answer ≡ None → inputs.new ≡ map (promise_number declared.now.promises) names.now) }
+{
+    if !find_promises(declared, names, inputs)? {
+        return Ok(Some(Reason::Unknown));
+    }
+    if is_any_unput(declared.promises(), inputs.as_slice()) {
+        return Ok(Some(Reason::Order));
+    }
+    Ok(None)
+}
+
 /// Writes the number of the promise of each name, up to the first name that is no promise. Whether all are.
-pub fn find_promises(
+fn find_promises(
     declared: &Declared,
     names: &[Name],
     numbers: &mut Numbers,
@@ -52,7 +73,7 @@ pub fn find_promises(
 }
 
 /// Whether one of the promises of these names and numbers is put by nothing.
-pub fn is_any_unput(promises: &[PlannedPromise], numbers: &[u32]) -> bool
+fn is_any_unput(promises: &[PlannedPromise], numbers: &[u32]) -> bool
     ensures { result ≡ list_any (λ i. not (if_any (λ p. is_some p.putter) (slice_get promises.now i))) numbers.now }
 {
     numbers.iter().any(|number| !is_put_at(promises, *number))

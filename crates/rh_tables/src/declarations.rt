@@ -1,6 +1,6 @@
 //! The names and promises that the lines above declare.
 
-ghost use Rattle.std.specs.Prelude.{◌≡◌, ◌<◌, ◌≤◌, ◌++◌, ◌∷◌, [], List, ℕ, Some, None, IfOk, OnErr, IfSome, is_some, length, true, false, not, cond, ◌&&◌};
+ghost use Rattle.std.specs.Prelude.{◌≡◌, ◌<◌, ◌≤◌, ◌++◌, ◌∷◌, [], List, ℕ, Some, None, IfOk, OnOk, OnErr, IfSome, is_some, length, true, false, not, cond, ◌&&◌};
 ghost use Rattle.rh_words.specs.declared.limits.TheConstants.{MAX_PROMISE_WORDS};
 ghost use Rattle.rh_words.specs.Naming.{is_name};
 ghost use Rattle.rh_rules.specs.Tables.{declared_promise, putting, is_among, promise_at, is_put};
@@ -81,9 +81,13 @@ impl Declared {
         ensures fresh { IfOk result (λ added. added ≡ not (is_among name self.old.names)) }
         ensures added { IfOk result (λ added. added ≡ true → self.new ≡ declarations (self.old.names ++ name ∷ []) self.old.promises) }
     {
+        if self.has(&name) {
+            return Ok(false);
+        }
         keys_tell_names_apart();
         let _is_name = name.bytes();
-        note(&mut self.names, &mut self.known, name, None)
+        note(&mut self.names, &mut self.known, name, None)?;
+        Ok(true)
     }
 
     /// Whether one more promise goes beyond a limit.
@@ -108,9 +112,22 @@ impl Declared {
         ensures reason { IfOk result (λ answer. answer ≡ promise_reason self.old.names self.old.promises (declared_promise name len temp scope)) }
         ensures added { IfOk result (λ answer. answer ≡ None → self.new ≡ declarations (self.old.names ++ name ∷ []) (self.old.promises ++ declared_promise name len temp scope ∷ [])) }
     {
-        if self.is_over(len, temp, scope) {
-            return Ok(Some(self.reason_over(&name)));
+        if self.has(&name) {
+            return Ok(Some(Reason::Twice));
         }
+        if self.is_over(len, temp, scope) {
+            return Ok(Some(Reason::PlanLimit));
+        }
+        self.add(name, len, temp, scope)?;
+        Ok(None)
+    }
+
+    /// Adds a promise that is not refused.
+    fn add(&mut self, name: Name, len: u32, temp: bool, scope: bool) -> Result<(), OutOfMemory>
+        requires fresh { is_among name self.old.names ≡ false }
+        requires room { is_promise_over self.old.promises (declared_promise name len temp scope) ≡ false }
+        ensures added { OnOk result (self.new ≡ declarations (self.old.names ++ name ∷ []) (self.old.promises ++ declared_promise name len temp scope ∷ [])) }
+    {
         keys_tell_names_apart();
         let _is_name = name.bytes();
         let number = self.promises.len() as u32;
@@ -121,32 +138,13 @@ impl Declared {
             temp,
             scope,
         })?;
-        match note(&mut self.names, &mut self.known, name, Some(number)) {
-            Ok(true) => {
-                self.words += u64::from(len);
-                self.shown += shown_words(len, temp, scope);
-                Ok(None)
-            }
-            Ok(false) => {
-                self.promises.pop();
-                Ok(Some(Reason::Twice))
-            }
-            Err(fault) => {
-                self.promises.pop();
-                Err(fault)
-            }
+        if let Err(fault) = note(&mut self.names, &mut self.known, name, Some(number)) {
+            self.promises.pop();
+            return Err(fault);
         }
-    }
-
-    /// Why a promise of this name that goes beyond a limit is refused.
-    fn reason_over(&self, name: &Name) -> Reason
-        ensures { result ≡ cond (is_among name.now self.now.names) Reason.Twice Reason.PlanLimit }
-    {
-        if self.has(name) {
-            Reason::Twice
-        } else {
-            Reason::PlanLimit
-        }
+        self.words += u64::from(len);
+        self.shown += shown_words(len, temp, scope);
+        Ok(())
     }
 
     /// Whether the name is declared.
@@ -175,28 +173,21 @@ fn shown_words(len: u32, temp: bool, scope: bool) -> u64
     if temp || scope { 0 } else { u64::from(len) }
 }
 
-/// Adds a name with its number, where it is not there. Whether it is added.
+/// Adds a name with its number.
 fn note(
     names: &mut Vec<Name>,
     known: &mut HashMap<NameKey, Option<u32>>,
     name: Name,
     number: Option<u32>,
-) -> Result<bool, OutOfMemory>
-    ensures fresh { IfOk result (λ added. added ≡ not (is_some (at_name known.old name))) }
-    ensures names { IfOk result (λ added. added ≡ true → names.new.items ≡ names.old.items ++ name ∷ []) }
-    ensures noted { IfOk result (λ added. added ≡ true → IsNoted known.old known.new name number) }
-    ensures same_names { IfOk result (λ added. added ≡ false → names.new.items ≡ names.old.items) }
-    ensures same_known { IfOk result (λ added. added ≡ false → known.new.entries ≡ known.old.entries) }
+) -> Result<(), OutOfMemory>
+    ensures names { OnOk result (names.new.items ≡ names.old.items ++ name ∷ []) }
+    ensures noted { OnOk result (IsNoted known.old known.new name number) }
     ensures names_kept { OnErr result (names.new.items ≡ names.old.items) }
     ensures known_kept { OnErr result (known.new.entries ≡ known.old.entries) }
 {
-    let key = name.key();
-    if known.contains_key(&key) {
-        return Ok(false);
-    }
     names.push(name)?;
-    match known.insert(key, number) {
-        Ok(_) => Ok(true),
+    match known.insert(name.key(), number) {
+        Ok(_) => Ok(()),
         Err(_) => {
             names.pop();
             Err(OutOfMemory)

@@ -7,15 +7,17 @@ mod awaiting;
 mod blocks;
 mod declarations;
 mod handed;
+mod line_use;
 mod matrices;
 mod node;
 mod open_task;
 mod used;
 
-pub use awaiting::{are_distinct, await_locals, find_promises, is_any_unput};
+pub use awaiting::{are_distinct, await_locals, await_reason};
 pub use blocks::Blocks;
 pub use declarations::Declared;
 pub use handed::Handed;
+pub use line_use::LineUse;
 pub use matrices::{Named, add_row, close_matrix};
 pub use node::{group_node, lets_of, scope_node, task_node};
 pub use open_task::OpenTask;

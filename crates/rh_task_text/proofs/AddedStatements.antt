@@ -1,6 +1,6 @@
 -- What is open below one more statement, and what its line says.
-use Rattle.std.proofs.Common.{◌≡◌, ℕ, ◌+◌, List, [], ◌∷◌, ◌++◌, None, Some, true, cond, get_or, length, set, refl, ap, sym, ◌∙◌, subst, inl, inr}
-use Rattle.std.specs.Prelude.{Result, Ok, Err}
+use Rattle.std.proofs.Common.{◌≡◌, ℕ, ◌+◌, List, [], ◌∷◌, ◌++◌, None, true, cond, get_or, length, set, take, refl, ap, sym, ◌∙◌, subst, inr}
+use Rattle.std.specs.Prelude.{Option, Result, Ok, Err, OnOk}
 use Rattle.rh_words.specs.Text.{words_of, is_printable, SaysNothing}
 use Rattle.rh_words.specs.Refusals.{OnRefused}
 use Rattle.rh_words.specs.declared.reason.Fault.{Fault}
@@ -19,7 +19,7 @@ use Rattle.rh_task_text.specs.FormRows.{IsHead}
 use Rattle.rh_task_text.specs.Statements.{kind_of, States}
 use Rattle.rh_task_text.specs.Blocks.{open_blocks, innermost, rows_here, lets_here, checks_here, is_row_form, is_let, is_check, count_line, change_by, changed}
 use Rattle.rh_task_text.specs.LineReasons.{statement_reason}
-use Rattle.rh_task_text.specs.LineReadings.{SaysForm, IsRead}
+use Rattle.rh_task_text.specs.LineReadings.{SaysForm}
 use Rattle.rh_task_text.specs.Program.{IsReason, IsLawful, upward}
 use Rattle.rh_task_text.specs.ReaderStates.{IsStateBelow, FollowsLine, AddsLine, AddsStatement, IsOverLimits, an_item}
 use Rattle.rh_task_text.proofs.BodiesBelow.{upward-push}
@@ -43,6 +43,18 @@ last_stated items all at line last now s at_is all_is now_is line_is =
     ∙ ap (λ (k : ℕ). set (items ++ last ∷ []) k (an_item now.line s)) at_is
     ∙ last_set items last (an_item now.line s)
     ∙ ap (λ (n : ℕ). items ++ an_item n s ∷ []) (ap (λ (i : Item). i.line) found ∙ line_is)
+
+item_front : (items : List Item) (last : Item) → take (length items) (items ++ last ∷ []) ≡ items
+item_front [] last = refl
+item_front (i ∷ items) last = ap (λ (l : List Item). i ∷ l) (item_front items last)
+
+-- the last item is taken away, whatever it has become
+pub taken_back : (items all : List Item) (at : ℕ) (last now : Item) → at ≡ length items → all ≡ items ++ last ∷ [] → take at (set all at now) ≡ items
+taken_back items all at last now at_is all_is =
+    ap (λ (l : List Item). take at (set l at now)) all_is
+    ∙ ap (λ (k : ℕ). take k (set (items ++ last ∷ []) k now)) at_is
+    ∙ ap (λ (l : List Item). take (length items) l) (last_set items last now)
+    ∙ item_front items now
 
 -- the state below one more statement
 pub state_added : (items : List Item) (line : ℕ) (s : Statement) (head : Head) (words : List (List ℕ)) (values : List Value) (blocks blocks2 : List Block) (rows lets checks rows2 lets2 checks2 : ℕ)
@@ -96,3 +108,16 @@ pub refused_by : {X : Type 0} (r : Result X (Fault Reason)) (P Q : Reason → Ty
 refused_by (Ok x) P Q follows said = tt
 refused_by (Err OutOfMemory) P Q follows said = tt
 refused_by (Err (Refused reason)) P Q follows said = follows reason said
+
+-- what holds of a success follows from what held of it
+pub ok_by : {X : Type 0} (r : Result X (Fault Reason)) (P Q : Type 0) → (P → Q) → OnOk r P → OnOk r Q
+ok_by (Ok x) P Q follows said = follows said
+ok_by (Err fault) P Q follows said = tt
+
+-- what is said in the open block, after so many of its rows
+pub said_here : (items : List Item) (here : Option Block) (rows : ℕ) (words : List (List ℕ)) (kind : FormKind) (read values : List Value) → here ≡ innermost (open_blocks (upward items)) → rows ≡ rows_here (upward items) → values ≡ read → SaysForm here rows words kind read
+    → SaysForm (innermost (open_blocks (upward items))) (rows_here (upward items)) words kind values
+said_here items here rows words kind read values here_is rows_are same says =
+    let kept = subst (λ (l : List Value). SaysForm here rows words kind l) (sym same) says in
+    let placed = subst (λ (b : Option Block). SaysForm b rows words kind values) here_is kept in
+    subst (λ (n : ℕ). SaysForm (innermost (open_blocks (upward items))) n words kind values) rows_are placed

@@ -66,8 +66,10 @@ impl Reader {
         ensures err { OnErr result (self.new ≡ self.old) }
     {
         let here = self.body.innermost();
-        let head = read_words(&mut self.values, here, self.body.rows(), line)?;
-        self.body.add(alloc, head, number, self.values.as_slice())
+        match read_words(&mut self.values, here, self.body.rows(), line) {
+            Ok(head) => self.body.add(alloc, head, number, self.values.as_slice()),
+            Err(fault) => Err(fault),
+        }
     }
 
     /// Whether no block is open below the items.

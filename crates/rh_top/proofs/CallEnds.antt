@@ -1,7 +1,7 @@
 -- What the steps of a call came to is what its status tells.
-use Rattle.std.proofs.Common.{◌≡◌, ℕ, ◌<◌, ◌∷◌, List, Some, None, length, replicate, refl, sym, ◌∙◌, subst, arith}
+use Rattle.std.proofs.Common.{◌≡◌, ℕ, ◌<◌, ◌∷◌, List, Option, Some, None, Ok, length, replicate, refl, sym, ◌∙◌, subst, arith}
 use Rattle.std.proofs.lemmas.List.{length-replicate}
-use Rattle.rh_outside.specs.States.{Told, WhereTold, Takes, IsUntouched, BreaksOff, KeepsFiles}
+use Rattle.rh_outside.specs.States.{StoreState, Told, WhereTold, Takes, IsUntouched, BreaksOff, KeepsFiles}
 use Rattle.rh_top.specs.declared.status.Status.{Status}
 use Rattle.rh_top.specs.declared.status.Status.TheVariants.{Done, TaskFailed, BadWords, ProgramRefused, FaultsRefused, StoreFailed, OutputFailed, OutOfMemory}
 use Rattle.rh_top.specs.declared.texts.Stop.{Stop}
@@ -9,7 +9,7 @@ use Rattle.rh_top.specs.declared.texts.Stop.TheVariants as stop
 use Rattle.rh_top.specs.Command.{Text, Command, IsCommand}
 use Rattle.rh_top.specs.Promise.{Call, Tells}
 use Rattle.rh_top.specs.declared.texts.Texts.{Texts}
-use Rattle.rh_top.specs.CallSteps.{AreTextsFor, StopsBy, IsToldOf, Delivers, refusal_of}
+use Rattle.rh_top.specs.CallSteps.{BytesOr, AreTextsFor, StopsBy, IsToldOf, Delivers, refusal_of}
 
 -- some bytes are too many, the told ones where they are told
 pub too_long : (told : Told) (limit : ℕ) → WhereTold told (λ bytes. limit < length bytes) → (bytes : List ℕ) × WhereTold told (λ t. t ≡ bytes) × (limit < length bytes)
@@ -44,3 +44,8 @@ delivered call c named files texts are ProgramRefused d = absurd d
 delivered call c named files texts are FaultsRefused d = absurd d
 delivered call c named files texts are StoreFailed d = absurd d
 delivered call c named files texts are OutOfMemory d = absurd d
+
+-- a file that was read and gave no bytes has more than the limit
+pub none_read : (before after : StoreState) (name : Text) (limit : ℕ) (bytes : Option Text) → bytes ≡ None → BytesOr before after name limit (Ok bytes) → WhereTold (before.file name) (λ told. limit < length told)
+none_read before after name limit None none long = long
+none_read before after name limit (Some bytes) none long = cc

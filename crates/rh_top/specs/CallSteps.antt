@@ -1,9 +1,9 @@
 -- What the steps of a call answer, which the promise of the whole call is made of.
-use Rattle.std.specs.Prelude.{◌≡◌, ◌⊎◌, true, false, List, Option, Some, Result, Ok, Err, codes}
+use Rattle.std.specs.Prelude.{◌≡◌, ◌⊎◌, ℕ, ◌<◌, ◌≤◌, true, false, List, Option, Some, None, Result, Ok, Err, codes, length}
 use Rattle.rh_words.specs.declared.reason.Refusal.{Refusal}
 use Rattle.rh_outside.specs.Counts.{Rose}
 use Rattle.rh_outside.specs.Shelves.{MayBe}
-use Rattle.rh_outside.specs.States.{StoreState, OutputState, Takes, IsUntouched, BreaksOff}
+use Rattle.rh_outside.specs.States.{WhereTold, StoreState, OutputState, Takes, IsUntouched, BreaksOff}
 use Rattle.rh_injector.specs.declared.faults.Strike.{Strike}
 use Rattle.rh_plan.specs.Plans.{PlanData}
 use Rattle.rh_top.specs.declared.status.Status.{Status}
@@ -20,6 +20,15 @@ use Rattle.rh_top.specs.Promise.{Says}
 -- the line and the reason of a refusal
 abbrev pub refusal_of : Refusal → TextRefusal
 refusal_of r = record { line = r.line; reason = r.reason }
+
+-- the bytes of a file, or none where it has more than the limit, or why it was not read
+abbrev pub BytesOr : StoreState → StoreState → Text → ℕ → Result (Option Text) Stop → Type 0
+BytesOr before after name limit (Ok (Some bytes)) = MayBe before name bytes × (length bytes ≤ limit)
+BytesOr before after name limit (Ok None) = WhereTold (before.file name) (λ told. limit < length told)
+BytesOr before after name limit (Err (stop.ProgramRefused r)) = ⊥
+BytesOr before after name limit (Err (stop.FaultsRefused r)) = ⊥
+BytesOr before after name limit (Err stop.ReadFailed) = Rose (before.failed_reads name) (after.failed_reads name)
+BytesOr before after name limit (Err stop.OutOfMemory) = Unit {0}
 
 -- the plan of the program in a file, or why there is none
 abbrev pub PlansOr : HandedChecks → StoreState → StoreState → Text → Result PlanData Stop → Type 0

@@ -5,7 +5,7 @@ ghost use Rattle.std.specs.Option.{option_map};
 ghost use Rattle.rh_words.specs.Refusals.{OnRefused};
 ghost use Rattle.rh_outside.specs.States.{KeepsFiles, KeepsCounts};
 ghost use Rattle.rh_plan.specs.Users.{AreChecksOf};
-ghost use Rattle.rh_top.specs.CallSteps.{AreTextsFor, AreTextsOfRun, StopsBy, refusal_of, PlansOr, FaultsOr, RunsOr};
+ghost use Rattle.rh_top.specs.CallSteps.{AreTextsFor, AreTextsOfRun, StopsBy, refusal_of, BytesOr, PlansOr, FaultsOr, RunsOr};
 ghost use Rattle.rh_top.specs.FileCommand.{command_data};
 ghost use Rattle.rh_check.specs.Users.{handed_checks};
 ghost use Rattle.rh_top.specs.Programs.{IsProgram, IsRefusedProgram, AreFaultsIn, AreRefusedFaults};
@@ -105,14 +105,31 @@ fn load_plan<S: Shelf, C: Checks>(
     ensures plan { PlansOr (handed_checks (C.names checks.now) (C.specs checks.now)) (S.state files.old) (S.state files.new) name.now result }
     ensures checks { IfOk result (λ plan. AreChecksOf plan (C.specs checks.now)) }
 {
+    let Some(bytes) = read_file(alloc, name, MAX_PROGRAM_BYTES, files)? else {
+        return Err(Stop::ProgramRefused(TOO_LONG));
+    };
+    match plan_text(alloc, bytes, checks) {
+        Ok(plan) => Ok(plan),
+        Err(Fault::Refused(refusal)) => Err(Stop::ProgramRefused(refusal)),
+        Err(Fault::OutOfMemory) => Err(Stop::OutOfMemory),
+    }
+}
+
+/// The bytes of a file, or none where it has more than `limit`.
+fn read_file<S: Shelf>(
+    alloc: Global,
+    name: &str,
+    limit: usize,
+    files: &mut S,
+) -> Result<Option<Bytes>, Stop>
+    ensures files { KeepsFiles (S.state files.old) (S.state files.new) }
+    ensures counts { KeepsCounts (S.state files.old) (S.state files.new) }
+    ensures bytes { BytesOr (S.state files.old) (S.state files.new) name.now limit result }
+{
     let mut bytes = Bytes::new(alloc);
-    match files.read(name, MAX_PROGRAM_BYTES, &mut bytes) {
-        ReadAnswer::Ok => match plan_text(alloc, bytes, checks) {
-            Ok(plan) => Ok(plan),
-            Err(Fault::Refused(refusal)) => Err(Stop::ProgramRefused(refusal)),
-            Err(Fault::OutOfMemory) => Err(Stop::OutOfMemory),
-        },
-        ReadAnswer::TooLong => Err(Stop::ProgramRefused(TOO_LONG)),
+    match files.read(name, limit, &mut bytes) {
+        ReadAnswer::Ok => Ok(Some(bytes)),
+        ReadAnswer::TooLong => Ok(None),
         ReadAnswer::Failed => Err(Stop::ReadFailed),
         ReadAnswer::OutOfMemory => Err(Stop::OutOfMemory),
     }
@@ -149,16 +166,13 @@ fn load_faults<S: Shelf>(
     let Some(name) = name else {
         return Ok(Faults::new(alloc));
     };
-    let mut bytes = Bytes::new(alloc);
-    match files.read(name, MAX_FAULT_BYTES, &mut bytes) {
-        ReadAnswer::Ok => match faults_in(alloc, bytes, plan) {
-            Ok(faults) => Ok(faults),
-            Err(Fault::Refused(refusal)) => Err(Stop::FaultsRefused(refusal)),
-            Err(Fault::OutOfMemory) => Err(Stop::OutOfMemory),
-        },
-        ReadAnswer::TooLong => Err(Stop::FaultsRefused(TOO_LONG)),
-        ReadAnswer::Failed => Err(Stop::ReadFailed),
-        ReadAnswer::OutOfMemory => Err(Stop::OutOfMemory),
+    let Some(bytes) = read_file(alloc, name, MAX_FAULT_BYTES, files)? else {
+        return Err(Stop::FaultsRefused(TOO_LONG));
+    };
+    match faults_in(alloc, bytes, plan) {
+        Ok(faults) => Ok(faults),
+        Err(Fault::Refused(refusal)) => Err(Stop::FaultsRefused(refusal)),
+        Err(Fault::OutOfMemory) => Err(Stop::OutOfMemory),
     }
 }
 

@@ -1,6 +1,6 @@
 //! Words that pass checks and words that do not, worked by hand.
 
-ghost use Rattle.std.specs.Prelude.{◌≡◌, ◌++◌, ◌∷◌, [], OnOk, length};
+ghost use Rattle.std.specs.Prelude.{◌≡◌, ◌++◌, ◌∷◌, [], IfOk, OnOk, length};
 ghost use Rattle.rh_check.specs.Checks.{are_within};
 
 use crate::sparse::two_rows;
@@ -224,14 +224,22 @@ const GRID_STEP: Spec = Spec::Conserve2 {
     s: 1,
 };
 
-/// Whether the words keep the sum of the line 8 0 between 0 and 0, whose step is 0 4.
-fn keep_line(alloc: Global, words: &[u64]) -> Result<bool, OutOfMemory>
-    requires { length words.now ≡ 2 }
+/// The line 8 0, between 0 and 0.
+fn line(alloc: Global) -> Result<ListInputs, OutOfMemory>
+    ensures { IfOk result (λ inputs. inputs ≡ (0 ∷ []) ∷ (8 ∷ 0 ∷ []) ∷ (0 ∷ []) ∷ []) }
 {
     let mut inputs = ListInputs::new(alloc);
     add(alloc, &mut inputs, &[0])?;
     add(alloc, &mut inputs, &[8, 0])?;
     add(alloc, &mut inputs, &[0])?;
+    Ok(inputs)
+}
+
+/// Whether the words keep the sum of the line, whose step is 0 4.
+fn keep_line(alloc: Global, words: &[u64]) -> Result<bool, OutOfMemory>
+    requires { length words.now ≡ 2 }
+{
+    let inputs = line(alloc)?;
     Ok(passes(&LINE_STEP, &Matrices::new(alloc), &NoChecks, &inputs, words))
 }
 
@@ -245,13 +253,21 @@ fn add_sides(alloc: Global, inputs: &mut ListInputs) -> Result<(), OutOfMemory>
     add(alloc, inputs, &[0])
 }
 
-/// Whether the words keep the sum of the grid of the one row 8 0, whose step is 4 4 between those sides.
-fn keep_grid(alloc: Global, words: &[u64]) -> Result<bool, OutOfMemory>
-    requires { length words.now ≡ 2 }
+/// The sides, and behind them the grid of the one row 8 0.
+fn grid(alloc: Global) -> Result<ListInputs, OutOfMemory>
+    ensures { IfOk result (λ inputs. inputs ≡ (8 ∷ 0 ∷ []) ∷ (8 ∷ 0 ∷ []) ∷ (8 ∷ []) ∷ (0 ∷ []) ∷ (8 ∷ 0 ∷ []) ∷ []) }
 {
     let mut inputs = ListInputs::new(alloc);
     add_sides(alloc, &mut inputs)?;
     add(alloc, &mut inputs, &[8, 0])?;
+    Ok(inputs)
+}
+
+/// Whether the words keep the sum of the grid, whose step is 4 4 between those sides.
+fn keep_grid(alloc: Global, words: &[u64]) -> Result<bool, OutOfMemory>
+    requires { length words.now ≡ 2 }
+{
+    let inputs = grid(alloc)?;
     Ok(passes(&GRID_STEP, &Matrices::new(alloc), &NoChecks, &inputs, words))
 }
 

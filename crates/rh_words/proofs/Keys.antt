@@ -1,15 +1,18 @@
 -- Keys of names: eight bytes are a number, and the number is those bytes.
-use Rattle.std.proofs.Common.{◌≡◌, ℕ, zero, suc, ◌+◌, ◌-◌, ◌<◌, ◌≤◌, List, [], ◌∷◌, ◌++◌, true, length, get_or, take, drop, replicate, w64, refl, ap, sym, ◌∙◌, arith, drop-cons, length-drop, length-append, add-zero}
-use Rattle.std.specs.Prelude.{◌&&◌, nat_le}
+use Rattle.std.proofs.Common.{◌≡◌, ℕ, zero, suc, ◌+◌, ◌-◌, ◌<◌, ◌≤◌, List, [], ◌∷◌, ◌++◌, Bool, true, false, length, get_or, take, drop, replicate, w64, refl, ap, sym, ◌∙◌, subst, arith, drop-cons, length-drop, length-append, add-zero}
+use Rattle.std.specs.Prelude.{◌&&◌, nat_eq, nat_le}
+use Rattle.std.specs.Str.{bytes_eq}
+use Rattle.std.specs.Cmp.Lexicographic.{nat_list_eq_equiv}
 use Rattle.std.specs.Int.{to_be_bytes}
 use Rattle.std.specs.List.{list_all}
-use Rattle.std.proofs.lemmas.Bool.{leb-true}
+use Rattle.std.proofs.lemmas.Bool.{leb-true, false≢true, and_parts}
+use Rattle.std.proofs.lemmas.Slice.Eq.{bytes_eq-Decides}
 use Rattle.std.proofs.lemmas.Nat.{be_bytes_8}
 use Rattle.std.proofs.lemmas.List.{take_all, length-take-le, length-replicate}
 use Rattle.std.proofs.lemmas.Bool.Decides.{nat_tests}
 use Rattle.std.proofs.Math.Seq.{take-add}
 use Rattle.rh_words.specs.Naming.{is_name, begins_name, continues_name}
-use Rattle.rh_words.specs.NameKeys.{padded_name, key_word, name_key}
+use Rattle.rh_words.specs.NameKeys.{padded_name, key_word, name_key, keys_eq, KeysTellNames}
 use Rattle.rh_words.specs.declared.name_key.NameKey.{NameKey}
 use Rattle.rh_words.proofs.WordsInPlaces.{both}
 
@@ -110,7 +113,7 @@ in_parts p whole =
     sym (take_all 32 p (omega arith)) ∙ take-add 24 8 p ∙ ap (λ (l : List ℕ). l ++ take 8 (drop 24 p)) (take-add 16 8 p ∙ ap (λ (l : List ℕ). l ++ take 8 (drop 16 p)) (take-add 8 8 p))
 
 -- names with equal keys are equal
-pub keys_apart : (n m : List ℕ) → is_name n ≡ true → is_name m ≡ true → name_key n ≡ name_key m → n ≡ m
+keys_apart : (n m : List ℕ) → is_name n ≡ true → is_name m ≡ true → name_key n ≡ name_key m → n ≡ m
 keys_apart n m a b e =
     let x = name_bytes n a in
     let y = name_bytes m b in
@@ -129,3 +132,33 @@ keys_apart n m a b e =
     ∙ ap (λ (l : List ℕ). ((take 8 (drop 0 (padded_name m)) ++ take 8 (drop 8 (padded_name m))) ++ l) ++ take 8 (drop 24 (padded_name n))) third
     ∙ ap (λ (l : List ℕ). ((take 8 (drop 0 (padded_name m)) ++ take 8 (drop 8 (padded_name m))) ++ take 8 (drop 16 (padded_name m))) ++ l) fourth in
     unpadded n m (32 - length n) (32 - length m) x.0 y.0 (in_parts (padded_name n) whole ∙ same ∙ sym (in_parts (padded_name m) whole2))
+
+numbers_equal : (a b : ℕ) → nat_eq a b ≡ true → a ≡ b
+numbers_equal a b e = grind (arith, nat_tests)
+
+number_is : (a : ℕ) → nat_eq a a ≡ true
+number_is a = grind (arith, nat_tests)
+
+key_eq : (a b : NameKey) → keys_eq a b ≡ true → a ≡ b
+key_eq a b e =
+    let (first, rest) = and_parts (nat_eq a.first b.first) _ e in
+    let (second, more) = and_parts (nat_eq a.second b.second) _ rest in
+    let (third, fourth) = and_parts (nat_eq a.third b.third) (nat_eq a.fourth b.fourth) more in
+    rw (numbers_equal a.first b.first first, numbers_equal a.second b.second second, numbers_equal a.third b.third third, numbers_equal a.fourth b.fourth fourth) refl
+
+key_same : (a : NameKey) → keys_eq a a ≡ true
+key_same a = rw (number_is a.first, number_is a.second, number_is a.third, number_is a.fourth) refl
+
+-- the keys of two names are equal exactly where the names are one
+pub keys_equal : KeysTellNames
+keys_equal n m a b = by (bytes_eq n m) (keys_eq (name_key n) (name_key m)) refl refl
+  where
+    by : (t u : Bool) → bytes_eq n m ≡ t → keys_eq (name_key n) (name_key m) ≡ u → keys_eq (name_key n) (name_key m) ≡ bytes_eq n m
+    by true true h k = k ∙ sym h
+    by false false h k = k ∙ sym h
+    by true false h k =
+        let same : n ≡ m = (bytes_eq-Decides n m).0 h in
+        absurd (false≢true (sym k ∙ subst (λ (x : List ℕ). keys_eq (name_key n) (name_key x) ≡ true) same (key_same (name_key n))))
+    by false true h k =
+        let same : n ≡ m = keys_apart n m a b (key_eq (name_key n) (name_key m) k) in
+        absurd (false≢true (sym h ∙ subst (λ (x : List ℕ). bytes_eq n x ≡ true) same (nat_list_eq_equiv.refl n)))

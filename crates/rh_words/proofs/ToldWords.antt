@@ -1,17 +1,23 @@
 -- Words in their places, one after another.
-use Rattle.std.proofs.Common.{◌≡◌, ℕ, suc, ◌+◌, ◌<◌, ◌≤◌, List, [], ◌∷◌, ◌++◌, Some, None, Bool, true, false, nat_lt, length, refl, ap, sym, ◌∙◌, subst, append_assoc, append-nil, length-append, cond, arith}
-use Rattle.std.specs.Prelude.{◌&&◌, not, MatchBool}
-use Rattle.std.proofs.lemmas.Bool.{ltb-false, ltb-true}
+use Rattle.std.proofs.Common.{◌≡◌, ℕ, suc, ◌+◌, ◌<◌, ◌≤◌, List, [], ◌∷◌, ◌++◌, Option, Some, None, Bool, true, false, nat_lt, length, refl, ap, sym, ◌∙◌, subst, append_assoc, append-nil, length-append, cond, arith}
+use Rattle.std.specs.Prelude.{◌&&◌, not, is_some, MatchBool, ⊤}
+use Rattle.std.specs.Option.{option_map}
+use Rattle.std.specs.Str.{bytes_eq}
+use Rattle.std.proofs.lemmas.Bool.{ltb-false}
+use Rattle.std.proofs.lemmas.Slice.Eq.{bytes_eq-Decides}
 use Rattle.rh_words.specs.declared.reason.Reason.TheVariants.{BadName, BadNumber, Count}
 use Rattle.rh_words.specs.declared.value.Place.{Place}
+use Rattle.rh_words.specs.declared.value.Place.TheVariants.{WordPlace, NamePlace, NumberPlace, MaskPlace, PairPlace}
 use Rattle.rh_words.specs.declared.value.Value.{Value}
-use Rattle.rh_words.specs.Values.{SayWords, IsAt}
+use Rattle.rh_words.specs.declared.value.Value.TheVariants.{AWord, AName, ANumber, AMask, APair}
+use Rattle.rh_words.specs.declared.keyword.Keyword.{Keyword}
+use Rattle.rh_words.specs.Keywords.{keyword_text}
+use Rattle.rh_words.specs.Naming.{is_name}
+use Rattle.rh_words.specs.Number.{number_of}
+use Rattle.rh_words.specs.Values.{SaysWord, SayWords, pair_of, IsAt}
 use Rattle.rh_words.specs.Places.{agrees, pass, passes_name, passes_number, passes_word, has_count, fills, places_reason, first_reason, FitPlaces}
-use Rattle.rh_words.specs.PlaceWalks.{Places, places, next_in, next_place, may_end, ToldBy, IsTold, IsNothingTold}
+use Rattle.rh_words.specs.PlaceWalks.{Places, places, next_in, next_place, may_end, word_value, ToldBy, IsTold, IsNothingTold}
 use Rattle.rh_words.proofs.WordsInPlaces.{both}
-
-one_more : (values values2 : List Value) (v : Value) (most : ℕ) → values2 ≡ values ++ v ∷ [] → length values < most → length values2 ≤ most
-one_more values values2 v most same few = omega (arith, ap (λ (l : List Value). length l) same, length-append values (v ∷ []))
 
 and_assoc : (a b c : Bool) → (a && (b && c)) ≡ ((a && b) && c)
 and_assoc true b c = refl
@@ -20,6 +26,22 @@ and_assoc false b c = refl
 and_true : (a : Bool) → (a && true) ≡ a
 and_true true = refl
 and_true false = refl
+
+and_is : (a b : Bool) → b ≡ true → (a && b) ≡ a
+and_is true b e = e
+and_is false b e = refl
+
+and_not : (a b : Bool) → b ≡ false → (a && b) ≡ false
+and_not true b e = e
+and_not false b e = refl
+
+unless_some : {X : Type 0} (b : Bool) (x : X) → cond b (Some x) None ≡ None → b ≡ false
+unless_some true x e = cc
+unless_some false x e = refl
+
+none_of : {X Y : Type 0} (o : Option X) (f : X → Y) → option_map f o ≡ None → is_some o ≡ false
+none_of None f e = refl
+none_of (Some x) f e = cc
 
 and_false : (a : Bool) → (a && false) ≡ false
 and_false true = refl
@@ -55,10 +77,112 @@ no_room : (few : Bool) (values : List Value) (most left n : ℕ) → (few ≡ tr
 no_room true values most left n sized many out = let le = ltb-false (length values) most out in omega (arith, sized refl)
 no_room false values most left n sized many out = many refl
 
+-- what the word says fits its place
+fits_place : (p : Place) (w : List ℕ) (v : Value) → word_value p w ≡ Some v → (passes_name p w ≡ true) × (passes_number p w ≡ true) × (passes_word p w ≡ true) × SaysWord w v × IsAt p v
+fits_place (WordPlace k) w v e = by_word (bytes_eq w (keyword_text k)) refl e
+  where
+    by_word : (b : Bool) → bytes_eq w (keyword_text k) ≡ b → cond b (Some (AWord k)) None ≡ Some v → (true ≡ true) × (true ≡ true) × (bytes_eq w (keyword_text k) ≡ true) × SaysWord w v × (v ≡ AWord k)
+    by_word true same is = let v_is : AWord k ≡ v = cc in (refl, refl, same, subst (λ (u : Value). SaysWord w u) v_is ((bytes_eq-Decides w (keyword_text k)).0 same), sym v_is)
+    by_word false same is = cc
+fits_place NamePlace w v e = by_name (is_name w) refl e
+  where
+    by_name : (b : Bool) → is_name w ≡ b → cond b (Some (AName w)) None ≡ Some v → (is_name w ≡ true) × (true ≡ true) × (true ≡ true) × SaysWord w v × ((name : List ℕ) × (v ≡ AName name))
+    by_name true named is = let v_is : AName w ≡ v = cc in (named, refl, refl, subst (λ (u : Value). SaysWord w u) v_is (refl, named), (w, sym v_is))
+    by_name false named is = cc
+fits_place NumberPlace w v e = by_number (number_of w) refl e
+  where
+    by_number : (o : Option ℕ) → number_of w ≡ o → option_map ANumber o ≡ Some v → (true ≡ true) × (is_some (number_of w) ≡ true) × (true ≡ true) × SaysWord w v × ((n : ℕ) × (v ≡ ANumber n))
+    by_number (Some n) number is = let v_is : ANumber n ≡ v = cc in (refl, ap (λ (o : Option ℕ). is_some o) number, refl, subst (λ (u : Value). SaysWord w u) v_is number, (n, sym v_is))
+    by_number None number is = cc
+fits_place MaskPlace w v e = by_number (number_of w) refl e
+  where
+    by_number : (o : Option ℕ) → number_of w ≡ o → option_map AMask o ≡ Some v → (true ≡ true) × (is_some (number_of w) ≡ true) × (true ≡ true) × SaysWord w v × ((n : ℕ) × (v ≡ AMask n))
+    by_number (Some n) number is = let v_is : AMask n ≡ v = cc in (refl, ap (λ (o : Option ℕ). is_some o) number, refl, subst (λ (u : Value). SaysWord w u) v_is number, (n, sym v_is))
+    by_number None number is = cc
+fits_place PairPlace w v e = by_pair (pair_of w) refl e
+  where
+    by_pair : (o : Option (ℕ × ℕ)) → pair_of w ≡ o → option_map (λ (pair : ℕ × ℕ). APair pair.0 pair.1) o ≡ Some v → (true ≡ true) × (is_some (pair_of w) ≡ true) × (true ≡ true) × SaysWord w v × ((j : ℕ) × (n : ℕ) × (v ≡ APair j n))
+    by_pair (Some (j, n)) pair is = let v_is : APair j n ≡ v = cc in (refl, ap (λ (o : Option (ℕ × ℕ)). is_some o) pair, refl, subst (λ (u : Value). SaysWord w u) v_is pair, (j, n, sym v_is))
+    by_pair None pair is = cc
+
+-- all values so far are kept, and one more may be, or not
+abbrev pub HasRoom : Bool → List Value → ℕ → Bool → Type 0
+HasRoom few values most few2 = few2 ≡ (few && nat_lt (length values) most)
+
+-- the word that says a value in its place is told, and the value is kept where there are few
+pub told_value : (most : ℕ) (names numbers words few few2 : Bool) (values values2 : List Value) (p : Place) (word : List ℕ) (v : Value) → word_value p word ≡ Some v → HasRoom few values most few2 → (few2 ≡ true → values2 ≡ values ++ v ∷ [])
+    → ToldBy most names numbers words few values p word names numbers words few2 values2
+told_value most names numbers words few few2 values values2 p word v said room kept =
+    let (name, number, text, says, at) = fits_place p word v said in
+    record {
+      named = sym (and_is names (passes_name p word) name);
+      numbered = sym (and_is numbers (passes_number p word) number);
+      worded = sym (and_is words (passes_word p word) text);
+      counted = room;
+      valued = λ _ _ _ d. (v, kept d, says, at);
+    }
+
+-- the place wants a number or two
+abbrev pub IsNumeric : Place → Type 0
+IsNumeric (WordPlace k) = ⊥
+IsNumeric NamePlace = ⊥
+IsNumeric NumberPlace = ⊤
+IsNumeric MaskPlace = ⊤
+IsNumeric PairPlace = ⊤
+
+no_number : (p : Place) (w : List ℕ) → IsNumeric p → word_value p w ≡ None → (passes_name p w ≡ true) × (passes_number p w ≡ false) × (passes_word p w ≡ true)
+no_number (WordPlace k) w h e = absurd h
+no_number NamePlace w h e = absurd h
+no_number NumberPlace w h e = (refl, none_of (number_of w) ANumber e, refl)
+no_number MaskPlace w h e = (refl, none_of (number_of w) AMask e, refl)
+no_number PairPlace w h e = (refl, none_of (pair_of w) (λ pair. APair pair.0 pair.1) e, refl)
+
+-- the word that says no number in its place is told
+pub told_no_number : (most : ℕ) (names numbers words few few2 : Bool) (values : List Value) (p : Place) (word : List ℕ) → IsNumeric p → word_value p word ≡ None → HasRoom few values most few2
+    → ToldBy most names numbers words few values p word names false words few2 values
+told_no_number most names numbers words few few2 values p word numeric said room =
+    let (name, number, text) = no_number p word numeric said in
+    record {
+      named = sym (and_is names (passes_name p word) name);
+      numbered = sym (and_not numbers (passes_number p word) number);
+      worded = sym (and_is words (passes_word p word) text);
+      counted = room;
+      valued = λ _ b _ _. cc;
+    }
+
+-- the word that is no name in a name's place is told
+pub told_no_name : (most : ℕ) (names numbers words few few2 : Bool) (values : List Value) (p : Place) (word : List ℕ) → p ≡ NamePlace → word_value p word ≡ None → HasRoom few values most few2
+    → ToldBy most names numbers words few values p word false numbers words few2 values
+told_no_name most names numbers words few few2 values p word is said room =
+    let missed : word_value NamePlace word ≡ None = subst (λ (q : Place). word_value q word ≡ None) is said in
+    let none = unless_some (is_name word) (AName word) missed in
+    record {
+      named = sym (and_not names (passes_name p word) (ap (λ (q : Place). passes_name q word) is ∙ none));
+      numbered = sym (and_is numbers (passes_number p word) (ap (λ (q : Place). passes_number q word) is));
+      worded = sym (and_is words (passes_word p word) (ap (λ (q : Place). passes_word q word) is));
+      counted = room;
+      valued = λ a _ _ _. cc;
+    }
+
+-- the word that is not the keyword of its place is told
+pub told_no_word : (most : ℕ) (names numbers words few few2 : Bool) (values : List Value) (p : Place) (k : Keyword) (word : List ℕ) → p ≡ WordPlace k → word_value p word ≡ None → HasRoom few values most few2
+    → ToldBy most names numbers words few values p word names numbers false few2 values
+told_no_word most names numbers words few few2 values p k word is said room =
+    let missed : word_value (WordPlace k) word ≡ None = subst (λ (q : Place). word_value q word ≡ None) is said in
+    let none = unless_some (bytes_eq word (keyword_text k)) (AWord k) missed in
+    record {
+      named = sym (and_is names (passes_name p word) (ap (λ (q : Place). passes_name q word) is));
+      numbered = sym (and_is numbers (passes_number p word) (ap (λ (q : Place). passes_number q word) is));
+      worded = sym (and_not words (passes_word p word) (ap (λ (q : Place). passes_word q word) is ∙ none));
+      counted = room;
+      valued = λ _ _ c _. cc;
+    }
+
 -- one more word in its place
 pub told_next : (most : ℕ) (first : Places) (all left : List (List ℕ)) (ps ps2 : Places) (p : Place) (word : List ℕ) (names numbers words few names2 numbers2 words2 few2 : Bool) (values values2 : List Value)
-    → IsTold most first all (word ∷ left) ps names numbers words few values → next_place ps ≡ Some (p, ps2) → ToldBy most names numbers words few values p word names2 numbers2 words2 few2 values2 → IsTold most first all left ps2 names2 numbers2 words2 few2 values2
-told_next most first all left ps ps2 p word names numbers words few names2 numbers2 words2 few2 values values2 told next by =
+    → IsTold most first all (word ∷ left) ps names numbers words few values → next_place ps ≡ Some (p, ps2) → ToldBy most names numbers words few values p word names2 numbers2 words2 few2 values2 → length values2 ≤ most
+    → IsTold most first all left ps2 names2 numbers2 words2 few2 values2
+told_next most first all left ps ps2 p word names numbers words few names2 numbers2 words2 few2 values values2 told next by short =
     let step = next_at ps.here ps.more ps.again p ps2 next in
     record {
       named = told.named ∙ ap (λ (b : Bool). names && b) (step.passes passes_name word left) ∙ and_assoc names (passes_name p word) _ ∙ ap (λ (b : Bool). b && pass passes_name ps2.here ps2.more ps2.again left) (sym by.named);
@@ -90,10 +214,7 @@ told_next most first all left ps ps2 p word names numbers words few names2 numbe
           let b2 = both numbers (passes_number p word) (sym by.numbered ∙ b) in
           let c2 = both words (passes_word p word) (sym by.worded ∙ c) in
           no_room few values most (length left) (length all) (told.sized a2.0 b2.0 c2.0) (told.many a2.0 b2.0 c2.0) (sym by.counted ∙ d);
-      short = λ a b c d.
-          let d2 = both few (nat_lt (length values) most) (sym by.counted ∙ d) in
-          let v = by.valued a b c d in
-          one_more values values2 v.0 most v.1 (ltb-true (length values) most d2.1);
+      short = short;
     }
 
 -- no word told anything
@@ -107,7 +228,7 @@ told_none most first all names numbers words few values none =
       valued = λ _ _ _ _ vs says fits. rw none.valued (says, fits);
       sized = λ _ _ _ _. rw none.valued (omega arith);
       many = λ _ _ _ not_few. cc;
-      short = λ _ _ _ _. rw none.valued (omega arith);
+      short = rw none.valued (omega arith);
     }
 
 reason_of : (a b c : Bool) → (a && (b && c)) ≡ false → cond (not a) (Some BadName) (cond (not b) (Some BadNumber) (cond (not c) (Some Count) None)) ≡ Some (first_reason a b)
@@ -174,10 +295,6 @@ told_answer most first all left ps names numbers words true values told none a b
 told_answer most first all left ps names numbers words false values told none a b c end =
     let last = subst (λ (ws : List (List ℕ)). IsTold most first all ws ps names numbers words false values) none told in
     (told_good most first all ps names numbers words false values last a b c end, last.many a b c refl)
-
--- no word is left, and all values are kept: they are few
-pub told_few : (most : ℕ) (first : Places) (all left : List (List ℕ)) (ps : Places) (names numbers words few : Bool) (values : List Value) → IsTold most first all left ps names numbers words few values → left ≡ [] → names ≡ true → numbers ≡ true → words ≡ true → few ≡ true → length all ≤ most
-told_few most first all left ps names numbers words few values told none a b c d = omega (arith, told.short a b c d, told.sized a b c d, ap (λ (ws : List (List ℕ)). length ws) none)
 
 pub agrees_nothing : (choice : List Place) → agrees choice [] ≡ true
 agrees_nothing [] = refl

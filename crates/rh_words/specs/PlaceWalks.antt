@@ -1,8 +1,15 @@
 -- A walk over the words of a line in their places, and what they told so far.
-use Rattle.std.specs.Prelude.{ℕ, ◌≡◌, ◌<◌, ◌≤◌, ◌+◌, ◌&&◌, ◌++◌, List, [], ◌∷◌, Option, Some, None, Bool, true, false, nat_lt, length}
+use Rattle.std.specs.Prelude.{ℕ, ◌≡◌, ◌<◌, ◌≤◌, ◌+◌, ◌&&◌, ◌++◌, List, [], ◌∷◌, Option, Some, None, Bool, true, false, nat_lt, length, if◌then◌else◌}
+use Rattle.std.specs.Option.{option_map}
+use Rattle.std.specs.Str.{bytes_eq}
 use Rattle.rh_words.specs.declared.value.Place.{Place}
 use Rattle.rh_words.specs.declared.value.Value.{Value}
-use Rattle.rh_words.specs.Values.{SaysWord, SayWords, IsAt}
+use Rattle.rh_words.specs.declared.value.Place.TheVariants.{WordPlace, NamePlace, NumberPlace, MaskPlace, PairPlace}
+use Rattle.rh_words.specs.declared.value.Value.TheVariants.{AWord, AName, ANumber, AMask, APair}
+use Rattle.rh_words.specs.Keywords.{keyword_text}
+use Rattle.rh_words.specs.Naming.{is_name}
+use Rattle.rh_words.specs.Number.{number_of}
+use Rattle.rh_words.specs.Values.{SaysWord, SayWords, pair_of, IsAt}
 use Rattle.rh_words.specs.Places.{passes_name, passes_number, passes_word, pass, fills, FitPlaces}
 
 -- the places of the next words, what may follow them, and what may follow that
@@ -31,6 +38,14 @@ is_empty (p ∷ ps) = false
 abbrev pub may_end : Places → Bool
 may_end ps = is_empty ps.here
 
+-- what the word says in its place, where it fits
+abbrev pub word_value : Place → List ℕ → Option Value
+word_value (WordPlace k) word = if bytes_eq word (keyword_text k) then Some (AWord k) else None
+word_value NamePlace word = if is_name word then Some (AName word) else None
+word_value NumberPlace word = option_map ANumber (number_of word)
+word_value MaskPlace word = option_map AMask (number_of word)
+word_value PairPlace word = option_map (λ pair. APair pair.0 pair.1) (pair_of word)
+
 -- The word told a value, or that it does not fit its place. Values are kept while all words fit and there are fewer than `most`.
 pub record ToldBy (most : ℕ) (names numbers words few : Bool) (values : List Value) (place : Place) (word : List ℕ) (names2 numbers2 words2 few2 : Bool) (values2 : List Value) : Type 0 where
   pub named : names2 ≡ (names && passes_name place word)
@@ -47,7 +62,7 @@ pub record IsTold (most : ℕ) (first : Places) (all left : List (List ℕ)) (ps
   pub valued : names ≡ true → numbers ≡ true → words ≡ true → few ≡ true → (vs : List Value) → SayWords left vs → FitPlaces ps.here ps.more ps.again vs → SayWords all (values ++ vs) × FitPlaces first.here first.more first.again (values ++ vs)
   pub sized : names ≡ true → numbers ≡ true → words ≡ true → few ≡ true → length values + length left ≡ length all
   pub many : names ≡ true → numbers ≡ true → words ≡ true → few ≡ false → most < length all
-  pub short : names ≡ true → numbers ≡ true → words ≡ true → few ≡ true → length values ≤ most
+  pub short : length values ≤ most
 
 -- no word told anything
 pub record IsNothingTold (names numbers words few : Bool) (values : List Value) : Type 0 where

@@ -1,14 +1,14 @@
 //! The words of a line in their places.
 
-ghost use Rattle.std.specs.Prelude.{◌≡◌, ◌<◌, ◌≤◌, ◌++◌, ◌∷◌, [], true, Some, None, IfOk, OnOk, MatchBool, length, if◌then◌else◌};
+ghost use Rattle.std.specs.Prelude.{◌≡◌, ◌<◌, ◌≤◌, ◌++◌, ◌∷◌, [], true, Some, None, IfOk, OnOk, MatchBool, length, nat_lt, ◌&&◌};
 ghost use Rattle.std.specs.Option.{option_map};
 ghost use Rattle.rh_words.specs.Text.{words_of};
 ghost use Rattle.rh_words.specs.Values.{SayWords};
 ghost use Rattle.rh_words.specs.Places.{agrees, places_reason, passes_word, first_reason, FitPlaces};
-ghost use Rattle.rh_words.specs.PlaceWalks.{places, next_place, may_end, ToldBy, IsNothingTold};
+ghost use Rattle.rh_words.specs.PlaceWalks.{places, next_place, may_end, word_value, ToldBy, IsNothingTold};
 ghost use Rattle.rh_words.specs.Refusals.{OnRefused};
 
-use crate::keyword::{keyword_text, says_keyword};
+use crate::keyword::says_keyword;
 use crate::lines::LineWords;
 use crate::name::Name;
 use crate::number::read_number;
@@ -68,6 +68,22 @@ impl PlaceWalk {
     }
 }
 
+/// What the word says in its place, or nothing where it does not fit.
+fn word_value(place: Place, word: &[u8]) -> Option<Value>
+    ensures { result ≡ word_value place word.now }
+{
+    match place {
+        Place::WordPlace(keyword) => says_keyword(word, keyword).then_some(Value::AWord(keyword)),
+        Place::NamePlace => Some(Value::AName(Name::read(word)?)),
+        Place::NumberPlace => Some(Value::ANumber(read_number(word).ok()?)),
+        Place::MaskPlace => Some(Value::AMask(read_number(word).ok()?)),
+        Place::PairPlace => {
+            let (first, second) = read_pair(word)?;
+            Some(Value::APair(first, second))
+        }
+    }
+}
+
 /// What words told: values as long as there are few, and whether names, numbers and other words were as they should be.
 #[derive(Drop)]
 struct Told {
@@ -79,43 +95,33 @@ struct Told {
 }
 
 impl Told {
-    /// One more word, in this place. Fewer than `most` values are kept.
-    fn tell(&mut self, most: usize, place: Place, word: &[u8]) -> Result<(), OutOfMemory>
-        ensures { OnOk result (ToldBy most self.old.names self.old.numbers self.old.words self.old.few self.old.values.items place word.now
-            self.new.names self.new.numbers self.new.words self.new.few self.new.values.items) }
+    /// Whether all values so far are kept, and one more may be.
+    fn has_room(&self, most: usize) -> bool
+        ensures { result ≡ (self.now.few && nat_lt (length self.now.values.items) most) }
     {
-        self.few = self.few && self.values.len() < most;
-        match place {
-            Place::WordPlace(keyword) => {
-                if word == keyword_text(keyword) {
-                    return keep(&mut self.values, self.few, Value::AWord(keyword));
+        self.few && self.values.len() < most
+    }
+
+    /// One more word, in this place. At most `most` values are kept.
+    fn tell(&mut self, most: usize, place: Place, word: &[u8]) -> Result<(), OutOfMemory>
+        ensures told { OnOk result (ToldBy most self.old.names self.old.numbers self.old.words self.old.few self.old.values.items place word.now
+            self.new.names self.new.numbers self.new.words self.new.few self.new.values.items) }
+        ensures short { length self.old.values.items ≤ most → length self.new.values.items ≤ most }
+    {
+        self.few = self.has_room(most);
+        match word_value(place, word) {
+            Some(value) => {
+                if self.few {
+                    self.values.push(value)?;
                 }
-                self.words = false;
             }
-            Place::NamePlace => {
-                if let Some(name) = Name::read(word) {
-                    return keep(&mut self.values, self.few, Value::AName(name));
-                }
-                self.names = false;
-            }
-            Place::NumberPlace => {
-                if let Ok(number) = read_number(word) {
-                    return keep(&mut self.values, self.few, Value::ANumber(number));
-                }
-                self.numbers = false;
-            }
-            Place::MaskPlace => {
-                if let Ok(number) = read_number(word) {
-                    return keep(&mut self.values, self.few, Value::AMask(number));
-                }
-                self.numbers = false;
-            }
-            Place::PairPlace => {
-                if let Some((first, second)) = read_pair(word) {
-                    return keep(&mut self.values, self.few, Value::APair(first, second));
-                }
-                self.numbers = false;
-            }
+            None => match place {
+                Place::WordPlace(_) => self.words = false,
+                Place::NamePlace => self.names = false,
+                Place::NumberPlace => self.numbers = false,
+                Place::MaskPlace => self.numbers = false,
+                Place::PairPlace => self.numbers = false,
+            },
         }
         Ok(())
     }
@@ -127,7 +133,7 @@ impl Told {
         ensures ok { IfOk result (λ kept. MatchBool kept
             (SayWords (words_of line.now) self.new.values.items × FitPlaces places.here places.more places.again self.new.values.items)
             ((places_reason places.here places.more places.again (words_of line.now) ≡ None) × (most < length (words_of line.now)))) }
-        ensures few { IfOk result (λ kept. kept ≡ true → length (words_of line.now) ≤ most) }
+        ensures short { length self.new.values.items ≤ most }
         ensures refused { OnRefused result (λ reason. places_reason places.here places.more places.again (words_of line.now) ≡ Some reason) }
     {
         let mut words = LineWords::of(line);
@@ -144,16 +150,6 @@ impl Told {
             Err(Fault::Refused(first_reason(self.names, self.numbers)))
         }
     }
-}
-
-/// Puts the value behind the others where there are few.
-fn keep(values: &mut Vec<Value>, few: bool, value: Value) -> Result<(), OutOfMemory>
-    ensures { OnOk result (values.new.items ≡ (if few then values.old.items ++ value ∷ [] else values.old.items)) }
-{
-    if few {
-        values.push(value)?;
-    }
-    Ok(())
 }
 
 /// The reason of words of which some name, else some number, else some other word or their count is wrong.
@@ -208,7 +204,8 @@ impl LineValues {
     }
 
     /// Reads the words of a line, which stand in these places, and answers whether their values are kept: words that fit
-    /// and are more than `most` are counted alone. Else the reason is the first of 4 to 6 that holds of the words.
+    /// and are more than `most` are counted alone. Else the reason is the first of 4 to 6 that holds of the words. Whatever
+    /// the answer, no more than `most` values take memory.
     pub fn read(
         &mut self,
         places: PlaceWalk,
@@ -218,7 +215,7 @@ impl LineValues {
         ensures ok { IfOk result (λ kept. MatchBool kept
             (SayWords (words_of line.now) self.new × FitPlaces places.here places.more places.again self.new)
             ((places_reason places.here places.more places.again (words_of line.now) ≡ None) × (most < length (words_of line.now)))) }
-        ensures few { IfOk result (λ kept. kept ≡ true → length (words_of line.now) ≤ most) }
+        ensures short { length self.new ≤ most }
         ensures refused { OnRefused result (λ reason. places_reason places.here places.more places.again (words_of line.now) ≡ Some reason) }
     {
         self.told.values.clear();

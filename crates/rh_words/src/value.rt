@@ -33,7 +33,6 @@ pub enum Value {
 }
 
 /// The two numbers that are joined by one `:`, or nothing where the word is no such pair.
-#[tactic(auto, unfolding(crate::specs::Values::pair_of))]
 pub fn read_pair(word: &[u8]) -> Option<(u64, u64)>
     ensures { result ≡ pair_of word.now }
 {

@@ -1,4 +1,4 @@
-use Rattle.std.proofs.Common.{◌≡◌, ◌∙◌, ◌++◌, ◌∷◌, [], ℕ, List, Bool, true, cond, Option, Some, None, sym, ap, refl, subst}
+use Rattle.std.proofs.Common.{◌≡◌, ◌∙◌, ◌++◌, ℕ, List, Bool, true, cond, Option, Some, None, sym, ap, refl, subst}
 use Rattle.std.specs.Prelude.{unwrap_or}
 use Rattle.rh_words.specs.declared.reason.Reason.TheVariants.{NoCheck}
 use Rattle.rh_rules.specs.Kept.{KeptCheck}
@@ -50,12 +50,12 @@ returns c =
         blocks = refl;
         count = refl;
         nodes = refl;
-        inputs = c.in_ok-reason.ensures.inputs;
-        locals = ap (λ v. v.items) c.in_ok-reason.ensures.locals;
-        drops = ap (λ v. v.items) c.in_ok-reason.ensures.drops;
-        steps = c.in_ok-reason.ensures.body;
-        scheme = c.in_ok-reason.ensures.scheme;
-        checks = c.in_ok-push.ensures.ok ∙ ap (λ (l : List KeptCheck). l ++ check ∷ []) c.in_ok-reason.ensures.checks
+        inputs = refl;
+        locals = refl;
+        drops = refl;
+        steps = refl;
+        scheme = refl;
+        checks = c.in_ok-push.ensures.ok
             ∙ ap (λ (l : List KeptCheck). c.args.self.now.task.checks ++ l) (kept_is handed f.promises f.matrices f.locals s q c.in-Some.number c.in-Some-asked_place.place c.check_reason.new.self.matrix.number _ c.spec_of-spec.result c.named-user.result c.requires.checks number place ((c.in_ok-reason.ensures.matrix c.in_default-2.is).number ∙ ap (λ (l : List NamedShape). matrix_used l s) c.deref.ensures.value) (c.deref-2.ensures.value ∙ numbers) c.spec_of-spec.ensures c.named-user.ensures);
       });
       handed = refl;

@@ -57,12 +57,12 @@ returns c =
         blocks = refl;
         count = refl;
         nodes = refl;
-        inputs = c.in_ok-reason.ensures.inputs;
-        locals = ap (λ v. v.items) c.in_ok-reason.ensures.locals;
-        drops = ap (λ v. v.items) c.in_ok-reason.ensures.drops;
-        steps = c.in_ok-push.ensures.ok ∙ ap (λ (b : List Step). b ++ c.put_step.result ∷ []) c.in_ok-reason.ensures.body ∙ ap (λ (s : Step). c.args.self.now.task.body ++ s ∷ []) step;
-        scheme = c.in_ok-reason.ensures.scheme;
-        checks = c.in_ok-reason.ensures.checks;
+        inputs = refl;
+        locals = refl;
+        drops = refl;
+        steps = c.in_ok-push.ensures.ok ∙ ap (λ (s : Step). c.args.self.now.task.body ++ s ∷ []) step;
+        scheme = refl;
+        checks = refl;
       });
       handed = refl;
     }

@@ -1,14 +1,16 @@
-use Rattle.std.proofs.Common.{◌≡◌, ◌++◌, ◌∷◌, [], List, sym, length, refl, subst, ◌∙◌, arith, slice_set, None}
+use Rattle.std.proofs.Common.{◌≡◌, ◌++◌, ◌∷◌, [], List, sym, length, refl, subst, ◌∙◌, arith, slice_set, None, Err}
+use Rattle.rh_words.specs.Refusals.{OnRefused}
+use Rattle.rh_task_text.specs.declared.body.Below.{Below}
 use Rattle.rh_task_text.specs.declared.statement.Item.{Item}
 use Rattle.rh_task_text.specs.Blocks.{open_blocks, innermost, rows_here}
 use Rattle.rh_task_text.specs.LineReadings.{SaysForm}
 use Rattle.rh_task_text.specs.LineReasons.{statement_reason}
 use Rattle.rh_task_text.specs.Program.{upward}
-use Rattle.rh_task_text.specs.ReaderStates.{IsStateBelow, an_item}
+use Rattle.rh_task_text.specs.ReaderStates.{IsStateBelow, IsOverLimits, an_item}
 use Rattle.rh_task_text.proofs.CountsOfLines.{rows_small, lets_small, checks_small}
-use Rattle.rh_task_text.proofs.AddedStatements.{last_stated, state_added}
+use Rattle.rh_task_text.proofs.AddedStatements.{last_stated, taken_back, state_added, refused_by}
 use Rattle.rh_task_text.proofs.body.Body.add.Goals as goal
-use Rattle.rh_task_text.proofs.body.Body.add.Goals.{In_default}
+use Rattle.rh_task_text.proofs.body.Body.add.Goals.{In_default, After-truncate}
 
 pub add-requires-clause-rows : goal.add-requires-clause-rows
 add-requires-clause-rows c =
@@ -45,3 +47,28 @@ returns-clause-ok c = (
   subst (λ (items : List Item). statement_reason (upward items) c.add.new.place ≡ None) c.self.view_is (limited c),
   subst (λ (items : List Item). slice_set c.push.new.self.items c.len-at.result (an_item c.index_mut.result.now.line c.add.new.place) ≡ items ++ an_item c.args.line c.add.new.place ∷ []) c.self.view_is (stated c),
 )
+
+pub add-requires-clause-values : goal.add-requires-clause-values
+add-requires-clause-values c = c.requires.says.1.fits
+
+-- the items without the new one
+back : (c : After-truncate) → c.truncate.new.self.items ≡ c.self.inside.items.items
+back c =
+    let at : c.len-at.result ≡ length c.self.inside.items.items = omega arith in
+    c.truncate.ensures.items ∙ taken_back c.self.inside.items.items c.push.new.self.items c.len-at.result _ _ at c.in_ok-push.ensures.items
+
+pub invariant_of-self-in-Err : goal.invariant_of-self-in-Err
+invariant_of-self-in-Err c =
+    let items = subst (λ (l : List Item). IsStateBelow l c.self.inside.below.blocks c.self.inside.below.rows c.self.inside.below.lets c.self.inside.below.checks) (sym (back c)) c.self.invariant in
+    subst (λ (b : Below). IsStateBelow c.truncate.new.self.items b.blocks b.rows b.lets b.checks) (sym c.in-Err.ensures.err) items
+
+pub returns-in-Err-clause-refused : goal.returns-in-Err-clause-refused
+returns-in-Err-clause-refused c =
+    let items = c.self.inside.items.items in
+    let kind = c.args.head.kind in
+    let values = c.args.values.now in
+    subst (λ (l : List Item). OnRefused {X = Unit {0}} (Err c.in-Err.fault) (IsOverLimits l kind values)) c.self.view_is
+    (refused_by {X = Unit {0}} (Err c.in-Err.fault) _ (IsOverLimits items kind values) (λ reason over. (c.add.new.place, over.0, sym (over.1 items c.self.invariant))) c.in-Err.ensures.refused)
+
+pub returns-in-Err-clause-err : goal.returns-in-Err-clause-err
+returns-in-Err-clause-err c = back c ∙ c.self.view_is

@@ -1,6 +1,0 @@
-use Rattle.std.proofs.Common.{arith}
-use Rattle.std.proofs.lemmas.Grind.{common_steps}
-use Rattle.rh_tables.proofs.open_task.is_owned.Goals as goal
-
-pub returns-else-promise : goal.returns-else-promise
-returns-else-promise = grind (arith, common_steps)

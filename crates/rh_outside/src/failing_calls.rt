@@ -1,4 +1,4 @@
-//! Injected faults: calls are numbered, and those of chosen numbers fail.
+//! Injected failures: calls are numbered, and those of chosen numbers fail.
 
 ghost use Rattle.std.specs.Prelude.{◌≡◌, OnOk, OnErr};
 ghost use Rattle.rh_outside.specs.Counts.{no_calls, is_failing, next_call, with_failing};

@@ -117,7 +117,7 @@ impl FileBlock {
     }
 }
 
-/// Adds a file to the block, and its span to the spans, in span of the one that the name had.
+/// Adds a file to the block, and its span to the spans, in place of the one that the name had.
 fn set_file(block: &mut Vec<u8>, spans: &mut Vec<FileSpan>, name: &[u8], bytes: &[u8])
     requires sound { AreFiles block.old.items spans.old.items }
     requires block_room { vec_len block.old + length name.now + length bytes.now ≤ vec_capacity block.old }

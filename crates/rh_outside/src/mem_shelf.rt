@@ -1,6 +1,6 @@
 //! A file store in memory.
 
-ghost use Rattle.std.specs.Prelude.{◌≡◌, ◌≢◌, ◌≤◌, ◌<◌, ℕ, List, Some, [], ◌∷◌, length, IfOk, OnOk, OnErr};
+ghost use Rattle.std.specs.Prelude.{◌≡◌, ◌≢◌, ◌≤◌, ◌<◌, ℕ, List, Some, [], length, IfOk, OnOk, OnErr};
 ghost use Rattle.std.specs.Option.{option_copied};
 ghost use Rattle.rh_outside.specs.FileMap.{file_of, with_file};
 ghost use Rattle.rh_outside.specs.Counts.{with_failing};
@@ -78,7 +78,6 @@ impl MemShelf {
 }
 
 impl Shelf for MemShelf {
-    ghost use Rattle.rh_outside.specs.States.{StoreState};
 
     ghost state = { λ s. record { file = λ n. Some (file_of n s.files); failed_reads = λ _. s.failed_reads; failed_writes = λ _. s.failed_writes } };
 

@@ -1,6 +1,6 @@
 //! A file store and output that never fails.
 
-ghost use Rattle.std.specs.Prelude.{◌≡◌, ◌≢◌, ◌≤◌, ◌<◌, ℕ, List, Some, None, [], ◌∷◌, length, unwrap_or, OnOk, OnErr};
+ghost use Rattle.std.specs.Prelude.{◌≡◌, ◌≢◌, ◌≤◌, ◌<◌, ℕ, List, Some, None, [], length, unwrap_or, OnOk, OnErr};
 ghost use Rattle.std.specs.Option.{option_map};
 ghost use Rattle.rh_outside.specs.FileMap.{file_of, with_file, without_file};
 ghost use Rattle.rh_outside.specs.MemoryStores.{IsReadAnswer, length_answer};
@@ -49,7 +49,6 @@ impl NeverFails {
 }
 
 impl Shelf for NeverFails {
-    ghost use Rattle.rh_outside.specs.States.{StoreState};
 
     ghost state = { λ s. record { file = λ n. option_map (λ bytes. Some bytes) (file_of n s); failed_reads = λ _. 0; failed_writes = λ _. 0 } };
 

@@ -1,6 +1,6 @@
 //! What the forms of statements make, use and need. Each call is one table over the forms.
 
-ghost use Rattle.std.specs.Prelude.{◌≡◌, ◌≤◌, ◌+◌, ◌++◌, ◌∷◌, [], Some, length, option_to_list, sum, slice_index, IfOk, OnOk, true};
+ghost use Rattle.std.specs.Prelude.{◌≡◌, ◌≤◌, ◌+◌, ◌++◌, ◌∷◌, Some, length, option_to_list, sum, slice_index, IfOk, OnOk, true};
 ghost use Rattle.rh_words.specs.declared.limits.TheConstants.{MAX_PARTS, MAX_PROMISE_WORDS};
 ghost use Rattle.rh_rules.specs.declared.body.Step.TheVariants as steps;
 ghost use Rattle.rh_rules.specs.Facets.{facets, are_sides};

@@ -1,6 +1,6 @@
 //! One altered word restored.
 
-ghost use Rattle.std.specs.Prelude.{◌≡◌, ◌≢◌, ◌≤◌, ◌<◌, ◌^◌, ◌+◌, ℕ, ℤ, pos, ◌-ℤ◌, ◌*ℤ◌, IfSome, MatchOption, length, slice_set};
+ghost use Rattle.std.specs.Prelude.{◌≡◌, ◌≢◌, ◌≤◌, ◌<◌, ◌+◌, ℕ, ℤ, pos, ◌-ℤ◌, ◌*ℤ◌, IfSome, MatchOption, length, slice_set};
 ghost use Rattle.std.specs.Option.{option_map};
 ghost use Rattle.rh_sparse.specs.Checksums.{IsSmall};
 ghost use Rattle.rh_sparse.specs.Correction.{as_word, correction_of, named_row, restored, words_left};

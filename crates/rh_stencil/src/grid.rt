@@ -1,11 +1,11 @@
 //! One step of a grid of words.
 
-ghost use Rattle.std.specs.Prelude.{◌≡◌, ◌≤◌, ◌<◌, ◌/◌, ◌%◌, ◌+◌, ◌-◌, ◌*◌, ◌^◌, IfOk, length, ℕ, slice_index};
+ghost use Rattle.std.specs.Prelude.{◌≡◌, ◌≤◌, ◌<◌, ◌/◌, ◌+◌, ◌-◌, ◌*◌, IfOk, length, ℕ, slice_index};
 ghost use Rattle.rh_words.specs.declared.limits.TheConstants.{MAX_SHIFT};
-ghost use Rattle.rh_stencil.specs.Biased.{biased_balance_at, biased_flux, biased_flux_at};
+ghost use Rattle.rh_stencil.specs.Biased.{biased_balance_at, biased_flux_at};
 ghost use Rattle.rh_stencil.specs.Flux.{balance_value};
 ghost use Rattle.rh_stencil.specs.Steps.{line_word};
-ghost use Rattle.rh_stencil.specs.Grids.{FitsGrid, step2_value, grid_word, word_south};
+ghost use Rattle.rh_stencil.specs.Grids.{FitsGrid, step2_value, word_south};
 
 use crate::fluxes::{balance, flux_with_bias};
 use crate::lanes::exchange_blocks;

@@ -1,7 +1,7 @@
 //! Four words at a time. Lanes have no arithmetic shift, so their fluxes have a bias, which turns the sign bit. It is the same in each
 //! flux, so it cancels where one flows in and another flows out.
 
-ghost use Rattle.std.specs.Prelude.{◌≡◌, ◌≤◌, ◌<◌, ◌+◌, ◌*◌, ◌^◌, ℕ, length, slice_index};
+ghost use Rattle.std.specs.Prelude.{◌≡◌, ◌≤◌, ◌<◌, ◌+◌, ◌*◌, ℕ, length, slice_index};
 ghost use Rattle.rh_words.specs.declared.limits.TheConstants.{MAX_SHIFT};
 ghost use Rattle.std.specs.Simd.Lanes.{zip2};
 ghost use Rattle.rh_stencil.specs.Biased.{biased_balance_at, biased_flux, biased_flux_at};

@@ -1,6 +1,6 @@
 //! One step of a line of words.
 
-ghost use Rattle.std.specs.Prelude.{◌≡◌, ◌≤◌, ◌<◌, ◌/◌, ◌%◌, ◌+◌, ◌*◌, ◌^◌, IfOk, length, ℕ, slice_index};
+ghost use Rattle.std.specs.Prelude.{◌≡◌, ◌≤◌, ◌<◌, ◌/◌, ◌+◌, ◌*◌, IfOk, length, ℕ, slice_index};
 ghost use Rattle.rh_words.specs.declared.limits.TheConstants.{MAX_SHIFT};
 ghost use Rattle.rh_stencil.specs.Steps.{step1_value, line_inflow, line_value, line_word};
 

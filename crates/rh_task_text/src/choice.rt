@@ -1,6 +1,6 @@
 //! The form of a line.
 
-ghost use Rattle.std.specs.Prelude.{◌≡◌, ◌∷◌, List, ℕ, Some, IfSome, IsTrue, ◌↔◌, codes, find};
+ghost use Rattle.std.specs.Prelude.{◌≡◌, ◌∷◌, List, ℕ, Some, IfSome, IsTrue, ◌↔◌, codes};
 ghost use Rattle.rh_words.specs.Keywords.{keyword_text};
 ghost use Rattle.rh_words.specs.Text.{words_of};
 ghost use Rattle.rh_words.specs.Places.{agrees};

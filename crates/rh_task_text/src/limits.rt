@@ -1,6 +1,6 @@
 //! The limits of statements.
 
-ghost use Rattle.std.specs.Prelude.{◌≡◌, ◌&&◌, Option, nat_lt, nat_le, length};
+ghost use Rattle.std.specs.Prelude.{◌≡◌, ◌&&◌, Option, nat_lt, nat_le};
 ghost use Rattle.std.specs.List.{list_all};
 ghost use Rattle.rh_task_text.specs.Limits.{own_limits, has_room, is_size, is_side, is_row, ascend, ascend_from, columns_here};
 ghost use Rattle.rh_words.specs.declared.keyword.Keyword.TheVariants.{LetWord, CheckWord};

@@ -1,6 +1,6 @@
 //! Reading the words of one line.
 
-ghost use Rattle.std.specs.Prelude.{◌≡◌, Some, IfOk};
+ghost use Rattle.std.specs.Prelude.{Some, IfOk};
 ghost use Rattle.rh_words.specs.Text.{words_of};
 ghost use Rattle.rh_words.specs.Refusals.{OnRefused};
 ghost use Rattle.rh_task_text.specs.FormRows.{IsHead};

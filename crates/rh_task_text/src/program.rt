@@ -1,6 +1,6 @@
 //! Reading a program text.
 
-ghost use Rattle.std.specs.Prelude.{◌≡◌, ◌∷◌, [], ◌<◌, ◌≤◌, ◌-◌, ◌/◌, ◌^◌, ℕ, List, IfOk, OnOk, length};
+ghost use Rattle.std.specs.Prelude.{◌≡◌, ◌∷◌, ◌<◌, ◌≤◌, ◌-◌, ◌/◌, ◌^◌, ℕ, List, IfOk, OnOk, length};
 ghost use Rattle.rh_words.specs.Refusals.{OnRefused};
 ghost use Rattle.rh_words.specs.Text.{lines_of};
 ghost use Rattle.rh_task_text.specs.Program.{IsFirstLine, Reads, FirstBad, version_text};

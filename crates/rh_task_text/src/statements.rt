@@ -1,6 +1,6 @@
 //! The statement that some values are.
 
-ghost use Rattle.std.specs.Prelude.{◌≡◌, ◌≢◌, [], IfOk, OnOk};
+ghost use Rattle.std.specs.Prelude.{◌≡◌, ◌≢◌, [], OnOk};
 ghost use Rattle.rh_words.specs.declared.keyword.Keyword.TheVariants.{LetWord, CheckWord};
 ghost use Rattle.rh_task_text.specs.Forms.{form};
 ghost use Rattle.rh_task_text.specs.Statements.{FitForm, States};

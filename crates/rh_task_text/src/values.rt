@@ -1,6 +1,6 @@
 //! What a statement says, word by word.
 
-ghost use Rattle.std.specs.Prelude.{◌≡◌, ◌≢◌, ◌⊎◌, ◌++◌, ◌∷◌, [], IfOk, OnOk, List, ℕ, map};
+ghost use Rattle.std.specs.Prelude.{◌≡◌, ◌≢◌, ◌⊎◌, ◌++◌, ◌∷◌, [], IfOk, OnOk, List, map};
 ghost use Rattle.rh_words.specs.declared.value.Value.{Value};
 ghost use Rattle.rh_words.specs.declared.value.Value.TheVariants.{AWord, AName, ANumber};
 ghost use Rattle.rh_words.specs.declared.keyword.Keyword.TheVariants.{RowWord, LetWord, LitWord, CheckWord, LinearWord};

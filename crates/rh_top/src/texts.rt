@@ -1,6 +1,6 @@
 //! The texts that a command writes, from the files that it reads.
 
-ghost use Rattle.std.specs.Prelude.{◌≡◌, ◌≤◌, [], IfOk, MatchResult, length};
+ghost use Rattle.std.specs.Prelude.{◌≡◌, ◌≤◌, IfOk, MatchResult, length};
 ghost use Rattle.std.specs.Option.{option_map};
 ghost use Rattle.rh_words.specs.Refusals.{OnRefused};
 ghost use Rattle.rh_outside.specs.States.{KeepsFiles, KeepsCounts};

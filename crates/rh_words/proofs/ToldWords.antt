@@ -3,7 +3,7 @@ use Rattle.std.proofs.Common.{◌≡◌, ℕ, suc, ◌+◌, ◌<◌, ◌≤◌, 
 use Rattle.std.specs.Prelude.{◌&&◌, not, is_some, MatchBool, ⊤}
 use Rattle.std.specs.Option.{option_map}
 use Rattle.std.specs.Str.{bytes_eq}
-use Rattle.std.proofs.lemmas.Bool.{ltb-false}
+use Rattle.std.proofs.lemmas.Bool.{ltb-true, ltb-false}
 use Rattle.std.proofs.lemmas.Slice.Eq.{bytes_eq-Decides}
 use Rattle.rh_words.specs.declared.reason.Reason.TheVariants.{BadName, BadNumber, Count}
 use Rattle.rh_words.specs.declared.value.Place.{Place}
@@ -16,7 +16,7 @@ use Rattle.rh_words.specs.Naming.{is_name}
 use Rattle.rh_words.specs.Number.{number_of}
 use Rattle.rh_words.specs.Values.{SaysWord, SayWords, pair_of, IsAt}
 use Rattle.rh_words.specs.Places.{agrees, pass, passes_name, passes_number, passes_word, has_count, fills, places_reason, first_reason, FitPlaces}
-use Rattle.rh_words.specs.PlaceWalks.{Places, places, next_in, next_place, may_end, word_value, ToldBy, IsTold, IsNothingTold}
+use Rattle.rh_words.specs.PlaceWalks.{Places, places, next_in, next_place, may_end, word_value, with_kept, ToldBy, IsTold, IsNothingTold}
 use Rattle.rh_words.proofs.WordsInPlaces.{both}
 
 and_assoc : (a b c : Bool) → (a && (b && c)) ≡ ((a && b) && c)
@@ -42,6 +42,10 @@ unless_some false x e = refl
 none_of : {X Y : Type 0} (o : Option X) (f : X → Y) → option_map f o ≡ None → is_some o ≡ false
 none_of None f e = refl
 none_of (Some x) f e = cc
+
+none_said : (o : Option Value) → is_some o ≡ false → o ≡ None
+none_said None e = refl
+none_said (Some v) e = cc
 
 and_false : (a : Bool) → (a && false) ≡ false
 and_false true = refl
@@ -73,7 +77,7 @@ moved : (values values2 : List Value) (v : Value) (left n : ℕ) → values2 ≡
 moved values values2 v left n is sized = rw is (omega (arith, sized, length-append values (v ∷ [])))
 
 -- the word that has no room makes the line longer than `most`
-no_room : (few : Bool) (values : List Value) (most left n : ℕ) → (few ≡ true → length values + suc left ≡ n) → (few ≡ false → most < n) → (few && nat_lt (length values) most) ≡ false → most < n
+no_room : (keeping : Bool) (values : List Value) (most left n : ℕ) → (keeping ≡ true → length values + suc left ≡ n) → (keeping ≡ false → most < n) → (keeping && nat_lt (length values) most) ≡ false → most < n
 no_room true values most left n sized many out = let le = ltb-false (length values) most out in omega (arith, sized refl)
 no_room false values most left n sized many out = many refl
 
@@ -107,20 +111,38 @@ fits_place PairPlace w v e = by_pair (pair_of w) refl e
 
 -- all values so far are kept, and one more may be, or not
 abbrev pub HasRoom : Bool → List Value → ℕ → Bool → Type 0
-HasRoom few values most few2 = few2 ≡ (few && nat_lt (length values) most)
+HasRoom keeping values most keeping2 = keeping2 ≡ (keeping && nat_lt (length values) most)
 
--- the word that says a value in its place is told, and the value is kept where there are few
-pub told_value : (most : ℕ) (names numbers words few few2 : Bool) (values values2 : List Value) (p : Place) (word : List ℕ) (v : Value) → word_value p word ≡ Some v → HasRoom few values most few2 → (few2 ≡ true → values2 ≡ values ++ v ∷ [])
-    → ToldBy most names numbers words few values p word names numbers words few2 values2
-told_value most names numbers words few few2 values values2 p word v said room kept =
-    let (name, number, text, says, at) = fits_place p word v said in
-    record {
-      named = sym (and_is names (passes_name p word) name);
-      numbered = sym (and_is numbers (passes_number p word) number);
-      worded = sym (and_is words (passes_word p word) text);
-      counted = room;
-      valued = λ _ _ _ d. (v, kept d, says, at);
-    }
+-- what is kept of what the word says, where it says something
+kept_value : (keeping2 : Bool) (values values2 : List Value) (v : Value) → values2 ≡ with_kept values (Some v) keeping2 → keeping2 ≡ true → values2 ≡ values ++ v ∷ []
+kept_value true values values2 v kept on = kept
+kept_value false values values2 v kept on = cc
+
+-- the word that fits its place is told, and its value is kept where values are
+pub told_value : (most : ℕ) (names numbers words keeping keeping2 : Bool) (values values2 : List Value) (p : Place) (word : List ℕ) → is_some (word_value p word) ≡ true → HasRoom keeping values most keeping2 → values2 ≡ with_kept values (word_value p word) keeping2
+    → ToldBy most names numbers words keeping values p word names numbers words keeping2 values2
+told_value most names numbers words keeping keeping2 values values2 p word fits room kept = by_value (word_value p word) refl fits kept
+  where
+    by_value : (o : Option Value) → word_value p word ≡ o → is_some o ≡ true → values2 ≡ with_kept values o keeping2 → ToldBy most names numbers words keeping values p word names numbers words keeping2 values2
+    by_value None said some is = cc
+    by_value (Some v) said some is =
+        let (name, number, text, says, at) = fits_place p word v said in
+        record {
+          named = sym (and_is names (passes_name p word) name);
+          numbered = sym (and_is numbers (passes_number p word) number);
+          worded = sym (and_is words (passes_word p word) text);
+          counted = room;
+          valued = λ _ _ _ d. (v, kept_value keeping2 values values2 v is d, says, at);
+        }
+
+-- no more than `most` values are kept
+pub kept_short : (most : ℕ) (keeping keeping2 : Bool) (values values2 : List Value) (o : Option Value) → HasRoom keeping values most keeping2 → values2 ≡ with_kept values o keeping2 → length values ≤ most → length values2 ≤ most
+kept_short most keeping keeping2 values values2 None room kept short = rw kept short
+kept_short most keeping false values values2 (Some v) room kept short = rw kept short
+kept_short most keeping true values values2 (Some v) room kept short =
+    let below = both keeping (nat_lt (length values) most) (sym room) in
+    let less : length values < most = ltb-true (length values) most below.1 in
+    rw kept (omega (arith, less, length-append values (v ∷ [])))
 
 -- the place wants a number or two
 abbrev pub IsNumeric : Place → Type 0
@@ -138,10 +160,10 @@ no_number MaskPlace w h e = (refl, none_of (number_of w) AMask e, refl)
 no_number PairPlace w h e = (refl, none_of (pair_of w) (λ pair. APair pair.0 pair.1) e, refl)
 
 -- the word that says no number in its place is told
-pub told_no_number : (most : ℕ) (names numbers words few few2 : Bool) (values : List Value) (p : Place) (word : List ℕ) → IsNumeric p → word_value p word ≡ None → HasRoom few values most few2
-    → ToldBy most names numbers words few values p word names false words few2 values
-told_no_number most names numbers words few few2 values p word numeric said room =
-    let (name, number, text) = no_number p word numeric said in
+pub told_no_number : (most : ℕ) (names numbers words keeping keeping2 : Bool) (values values2 : List Value) (p : Place) (word : List ℕ) → IsNumeric p → is_some (word_value p word) ≡ false → HasRoom keeping values most keeping2
+    → ToldBy most names numbers words keeping values p word names false words keeping2 values2
+told_no_number most names numbers words keeping keeping2 values values2 p word numeric said room =
+    let (name, number, text) = no_number p word numeric (none_said (word_value p word) said) in
     record {
       named = sym (and_is names (passes_name p word) name);
       numbered = sym (and_not numbers (passes_number p word) number);
@@ -151,10 +173,10 @@ told_no_number most names numbers words few few2 values p word numeric said room
     }
 
 -- the word that is no name in a name's place is told
-pub told_no_name : (most : ℕ) (names numbers words few few2 : Bool) (values : List Value) (p : Place) (word : List ℕ) → p ≡ NamePlace → word_value p word ≡ None → HasRoom few values most few2
-    → ToldBy most names numbers words few values p word false numbers words few2 values
-told_no_name most names numbers words few few2 values p word is said room =
-    let missed : word_value NamePlace word ≡ None = subst (λ (q : Place). word_value q word ≡ None) is said in
+pub told_no_name : (most : ℕ) (names numbers words keeping keeping2 : Bool) (values values2 : List Value) (p : Place) (word : List ℕ) → p ≡ NamePlace → is_some (word_value p word) ≡ false → HasRoom keeping values most keeping2
+    → ToldBy most names numbers words keeping values p word false numbers words keeping2 values2
+told_no_name most names numbers words keeping keeping2 values values2 p word is said room =
+    let missed : word_value NamePlace word ≡ None = subst (λ (q : Place). word_value q word ≡ None) is (none_said (word_value p word) said) in
     let none = unless_some (is_name word) (AName word) missed in
     record {
       named = sym (and_not names (passes_name p word) (ap (λ (q : Place). passes_name q word) is ∙ none));
@@ -165,10 +187,10 @@ told_no_name most names numbers words few few2 values p word is said room =
     }
 
 -- the word that is not the keyword of its place is told
-pub told_no_word : (most : ℕ) (names numbers words few few2 : Bool) (values : List Value) (p : Place) (k : Keyword) (word : List ℕ) → p ≡ WordPlace k → word_value p word ≡ None → HasRoom few values most few2
-    → ToldBy most names numbers words few values p word names numbers false few2 values
-told_no_word most names numbers words few few2 values p k word is said room =
-    let missed : word_value (WordPlace k) word ≡ None = subst (λ (q : Place). word_value q word ≡ None) is said in
+pub told_no_word : (most : ℕ) (names numbers words keeping keeping2 : Bool) (values values2 : List Value) (p : Place) (k : Keyword) (word : List ℕ) → p ≡ WordPlace k → is_some (word_value p word) ≡ false → HasRoom keeping values most keeping2
+    → ToldBy most names numbers words keeping values p word names numbers false keeping2 values2
+told_no_word most names numbers words keeping keeping2 values values2 p k word is said room =
+    let missed : word_value (WordPlace k) word ≡ None = subst (λ (q : Place). word_value q word ≡ None) is (none_said (word_value p word) said) in
     let none = unless_some (bytes_eq word (keyword_text k)) (AWord k) missed in
     record {
       named = sym (and_is names (passes_name p word) (ap (λ (q : Place). passes_name q word) is));
@@ -179,10 +201,10 @@ told_no_word most names numbers words few few2 values p k word is said room =
     }
 
 -- one more word in its place
-pub told_next : (most : ℕ) (first : Places) (all left : List (List ℕ)) (ps ps2 : Places) (p : Place) (word : List ℕ) (names numbers words few names2 numbers2 words2 few2 : Bool) (values values2 : List Value)
-    → IsTold most first all (word ∷ left) ps names numbers words few values → next_place ps ≡ Some (p, ps2) → ToldBy most names numbers words few values p word names2 numbers2 words2 few2 values2 → length values2 ≤ most
-    → IsTold most first all left ps2 names2 numbers2 words2 few2 values2
-told_next most first all left ps ps2 p word names numbers words few names2 numbers2 words2 few2 values values2 told next by short =
+pub told_next : (most : ℕ) (first : Places) (all left : List (List ℕ)) (ps ps2 : Places) (p : Place) (word : List ℕ) (names numbers words keeping names2 numbers2 words2 keeping2 : Bool) (values values2 : List Value)
+    → IsTold most first all (word ∷ left) ps names numbers words keeping values → next_place ps ≡ Some (p, ps2) → ToldBy most names numbers words keeping values p word names2 numbers2 words2 keeping2 values2 → length values2 ≤ most
+    → IsTold most first all left ps2 names2 numbers2 words2 keeping2 values2
+told_next most first all left ps ps2 p word names numbers words keeping names2 numbers2 words2 keeping2 values values2 told next by short =
     let step = next_at ps.here ps.more ps.again p ps2 next in
     record {
       named = told.named ∙ ap (λ (b : Bool). names && b) (step.passes passes_name word left) ∙ and_assoc names (passes_name p word) _ ∙ ap (λ (b : Bool). b && pass passes_name ps2.here ps2.more ps2.again left) (sym by.named);
@@ -197,7 +219,7 @@ told_next most first all left ps ps2 p word names numbers words few names2 numbe
           let a2 = both names (passes_name p word) (sym by.named ∙ a) in
           let b2 = both numbers (passes_number p word) (sym by.numbered ∙ b) in
           let c2 = both words (passes_word p word) (sym by.worded ∙ c) in
-          let d2 = both few (nat_lt (length values) most) (sym by.counted ∙ d) in
+          let d2 = both keeping (nat_lt (length values) most) (sym by.counted ∙ d) in
           let v = by.valued a b c d in
           let old = told.valued a2.0 b2.0 c2.0 d2.0 (v.0 ∷ vs) (word, left, refl, v.2, says) (step.fits v.0 vs v.3 fits) in
           let same : values ++ (v.0 ∷ vs) ≡ values2 ++ vs = sym (append_assoc values (v.0 ∷ []) vs) ∙ ap (λ (l : List Value). l ++ vs) (sym v.1) in
@@ -206,28 +228,28 @@ told_next most first all left ps ps2 p word names numbers words few names2 numbe
           let a2 = both names (passes_name p word) (sym by.named ∙ a) in
           let b2 = both numbers (passes_number p word) (sym by.numbered ∙ b) in
           let c2 = both words (passes_word p word) (sym by.worded ∙ c) in
-          let d2 = both few (nat_lt (length values) most) (sym by.counted ∙ d) in
+          let d2 = both keeping (nat_lt (length values) most) (sym by.counted ∙ d) in
           let v = by.valued a b c d in
           moved values values2 v.0 (length left) (length all) v.1 (told.sized a2.0 b2.0 c2.0 d2.0);
       many = λ a b c d.
           let a2 = both names (passes_name p word) (sym by.named ∙ a) in
           let b2 = both numbers (passes_number p word) (sym by.numbered ∙ b) in
           let c2 = both words (passes_word p word) (sym by.worded ∙ c) in
-          no_room few values most (length left) (length all) (told.sized a2.0 b2.0 c2.0) (told.many a2.0 b2.0 c2.0) (sym by.counted ∙ d);
+          no_room keeping values most (length left) (length all) (told.sized a2.0 b2.0 c2.0) (told.many a2.0 b2.0 c2.0) (sym by.counted ∙ d);
       short = short;
     }
 
 -- no word told anything
-pub told_none : (most : ℕ) (first : Places) (all : List (List ℕ)) (names numbers words few : Bool) (values : List Value) → IsNothingTold names numbers words few values → IsTold most first all all first names numbers words few values
-told_none most first all names numbers words few values none =
-    let few_is : few ≡ true = none.counted in
+pub told_none : (most : ℕ) (first : Places) (all : List (List ℕ)) (names numbers words keeping : Bool) (values : List Value) → IsNothingTold names numbers words keeping values → IsTold most first all all first names numbers words keeping values
+told_none most first all names numbers words keeping values none =
+    let keeping_is : keeping ≡ true = none.counted in
     record {
       named = rw none.named refl;
       numbered = rw none.numbered refl;
       filled = rw none.worded refl;
       valued = λ _ _ _ _ vs says fits. rw none.valued (says, fits);
       sized = λ _ _ _ _. rw none.valued (omega arith);
-      many = λ _ _ _ not_few. cc;
+      many = λ _ _ _ not_keeping. cc;
       short = rw none.valued (omega arith);
     }
 
@@ -238,8 +260,8 @@ reason_of true false c e = refl
 reason_of false b c e = refl
 
 -- no word is left, and something is wrong
-pub told_bad : (most : ℕ) (first : Places) (all : List (List ℕ)) (ps : Places) (names numbers words few : Bool) (values : List Value) → IsTold most first all [] ps names numbers words few values → (names && (numbers && (words && may_end ps))) ≡ false → places_reason first.here first.more first.again all ≡ Some (first_reason names numbers)
-told_bad most first all ps names numbers words few values told bad =
+pub told_bad : (most : ℕ) (first : Places) (all : List (List ℕ)) (ps : Places) (names numbers words keeping : Bool) (values : List Value) → IsTold most first all [] ps names numbers words keeping values → (names && (numbers && (words && may_end ps))) ≡ false → places_reason first.here first.more first.again all ≡ Some (first_reason names numbers)
+told_bad most first all ps names numbers words keeping values told bad =
     let n = told.named ∙ and_true names in
     let m = told.numbered ∙ and_true numbers in
     let f = told.filled ∙ ap (λ (b : Bool). words && b) (ends ps.here ps.more ps.again) in
@@ -249,8 +271,8 @@ told_bad most first all ps names numbers words few values told bad =
       ends (p ∷ here) more again = refl
 
 -- no word is left, and all is right
-pub told_good : (most : ℕ) (first : Places) (all : List (List ℕ)) (ps : Places) (names numbers words few : Bool) (values : List Value) → IsTold most first all [] ps names numbers words few values → names ≡ true → numbers ≡ true → words ≡ true → may_end ps ≡ true → places_reason first.here first.more first.again all ≡ None
-told_good most first all ps names numbers words few values told a b c end =
+pub told_good : (most : ℕ) (first : Places) (all : List (List ℕ)) (ps : Places) (names numbers words keeping : Bool) (values : List Value) → IsTold most first all [] ps names numbers words keeping values → names ≡ true → numbers ≡ true → words ≡ true → may_end ps ≡ true → places_reason first.here first.more first.again all ≡ None
+told_good most first all ps names numbers words keeping values told a b c end =
     let n = told.named ∙ and_true names ∙ a in
     let m = told.numbered ∙ and_true numbers ∙ b in
     let f = told.filled ∙ ap (λ (b : Bool). words && b) (ends ps.here ps.more ps.again end) ∙ and_true words ∙ c in
@@ -260,8 +282,8 @@ told_good most first all ps names numbers words few values told a b c end =
       ends (p ∷ here) more again e = cc
 
 -- a word is left, and no place
-pub told_extra : (most : ℕ) (first : Places) (all left : List (List ℕ)) (ps : Places) (word : List ℕ) (names numbers words few : Bool) (values : List Value) → IsTold most first all (word ∷ left) ps names numbers words few values → next_place ps ≡ None → places_reason first.here first.more first.again all ≡ Some (first_reason names numbers)
-told_extra most first all left ps word names numbers words few values told none =
+pub told_extra : (most : ℕ) (first : Places) (all left : List (List ℕ)) (ps : Places) (word : List ℕ) (names numbers words keeping : Bool) (values : List Value) → IsTold most first all (word ∷ left) ps names numbers words keeping values → next_place ps ≡ None → places_reason first.here first.more first.again all ≡ Some (first_reason names numbers)
+told_extra most first all left ps word names numbers words keeping values told none =
     let e = no_next ps.here ps.more ps.again none in
     let n = told.named ∙ ap (λ (b : Bool). names && b) (e.0 passes_name) ∙ and_true names in
     let m = told.numbered ∙ ap (λ (b : Bool). numbers && b) (e.0 passes_number) ∙ and_true numbers in
@@ -278,8 +300,8 @@ told_extra most first all left ps word names numbers words few values told none 
       no_next [] [] again e = ((λ test. refl), refl)
 
 -- no word is left, all is right, and all values are kept
-pub told_whole : (most : ℕ) (first : Places) (all : List (List ℕ)) (ps : Places) (names numbers words few : Bool) (values : List Value) → IsTold most first all [] ps names numbers words few values → names ≡ true → numbers ≡ true → words ≡ true → few ≡ true → may_end ps ≡ true → SayWords all values × FitPlaces first.here first.more first.again values
-told_whole most first all ps names numbers words few values told a b c d end =
+pub told_whole : (most : ℕ) (first : Places) (all : List (List ℕ)) (ps : Places) (names numbers words keeping : Bool) (values : List Value) → IsTold most first all [] ps names numbers words keeping values → names ≡ true → numbers ≡ true → words ≡ true → keeping ≡ true → may_end ps ≡ true → SayWords all values × FitPlaces first.here first.more first.again values
+told_whole most first all ps names numbers words keeping values told a b c d end =
     let all_of = told.valued a b c d [] refl (ends ps.here ps.more ps.again end) in
     subst (λ (l : List Value). SayWords all l × FitPlaces first.here first.more first.again l) (append-nil values) all_of where
       ends : (here more again : List Place) → may_end (places here more again) ≡ true → FitPlaces here more again []
@@ -287,8 +309,8 @@ told_whole most first all ps names numbers words few values told a b c d end =
       ends (p ∷ here) more again e = cc
 
 -- no word is left, and all is right: the values are kept, or there are too many
-pub told_answer : (most : ℕ) (first : Places) (all left : List (List ℕ)) (ps : Places) (names numbers words few : Bool) (values : List Value) → IsTold most first all left ps names numbers words few values → left ≡ [] → names ≡ true → numbers ≡ true → words ≡ true → may_end ps ≡ true
-    → MatchBool few (SayWords all values × FitPlaces first.here first.more first.again values) ((places_reason first.here first.more first.again all ≡ None) × (most < length all))
+pub told_answer : (most : ℕ) (first : Places) (all left : List (List ℕ)) (ps : Places) (names numbers words keeping : Bool) (values : List Value) → IsTold most first all left ps names numbers words keeping values → left ≡ [] → names ≡ true → numbers ≡ true → words ≡ true → may_end ps ≡ true
+    → MatchBool keeping (SayWords all values × FitPlaces first.here first.more first.again values) ((places_reason first.here first.more first.again all ≡ None) × (most < length all))
 told_answer most first all left ps names numbers words true values told none a b c end =
     let last = subst (λ (ws : List (List ℕ)). IsTold most first all ws ps names numbers words true values) none told in
     told_whole most first all ps names numbers words true values last a b c refl end

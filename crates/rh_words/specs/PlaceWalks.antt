@@ -46,28 +46,34 @@ word_value NumberPlace word = option_map ANumber (number_of word)
 word_value MaskPlace word = option_map AMask (number_of word)
 word_value PairPlace word = option_map (λ pair. APair pair.0 pair.1) (pair_of word)
 
--- The word told a value, or that it does not fit its place. Values are kept while all words fit and there are fewer than `most`.
-pub record ToldBy (most : ℕ) (names numbers words few : Bool) (values : List Value) (place : Place) (word : List ℕ) (names2 numbers2 words2 few2 : Bool) (values2 : List Value) : Type 0 where
+-- the values, and behind them what a word told, where that is kept
+abbrev pub with_kept : List Value → Option Value → Bool → List Value
+with_kept values None keeping = values
+with_kept values (Some v) true = values ++ v ∷ []
+with_kept values (Some v) false = values
+
+-- The word told a value, or that it does not fit its place. Values are kept as long as there are fewer than `most`.
+pub record ToldBy (most : ℕ) (names numbers words keeping : Bool) (values : List Value) (place : Place) (word : List ℕ) (names2 numbers2 words2 keeping2 : Bool) (values2 : List Value) : Type 0 where
   pub named : names2 ≡ (names && passes_name place word)
   pub numbered : numbers2 ≡ (numbers && passes_number place word)
   pub worded : words2 ≡ (words && passes_word place word)
-  pub counted : few2 ≡ (few && nat_lt (length values) most)
-  pub valued : names2 ≡ true → numbers2 ≡ true → words2 ≡ true → few2 ≡ true → (v : Value) × (values2 ≡ values ++ v ∷ []) × SaysWord word v × IsAt place v
+  pub counted : keeping2 ≡ (keeping && nat_lt (length values) most)
+  pub valued : names2 ≡ true → numbers2 ≡ true → words2 ≡ true → keeping2 ≡ true → (v : Value) × (values2 ≡ values ++ v ∷ []) × SaysWord word v × IsAt place v
 
 -- Of all the words of a line that began in the places `first` these are left, with these places; the others told this.
-pub record IsTold (most : ℕ) (first : Places) (all left : List (List ℕ)) (ps : Places) (names numbers words few : Bool) (values : List Value) : Type 0 where
+pub record IsTold (most : ℕ) (first : Places) (all left : List (List ℕ)) (ps : Places) (names numbers words keeping : Bool) (values : List Value) : Type 0 where
   pub named : pass passes_name first.here first.more first.again all ≡ (names && pass passes_name ps.here ps.more ps.again left)
   pub numbered : pass passes_number first.here first.more first.again all ≡ (numbers && pass passes_number ps.here ps.more ps.again left)
   pub filled : fills first.here first.more first.again all ≡ (words && fills ps.here ps.more ps.again left)
-  pub valued : names ≡ true → numbers ≡ true → words ≡ true → few ≡ true → (vs : List Value) → SayWords left vs → FitPlaces ps.here ps.more ps.again vs → SayWords all (values ++ vs) × FitPlaces first.here first.more first.again (values ++ vs)
-  pub sized : names ≡ true → numbers ≡ true → words ≡ true → few ≡ true → length values + length left ≡ length all
-  pub many : names ≡ true → numbers ≡ true → words ≡ true → few ≡ false → most < length all
+  pub valued : names ≡ true → numbers ≡ true → words ≡ true → keeping ≡ true → (vs : List Value) → SayWords left vs → FitPlaces ps.here ps.more ps.again vs → SayWords all (values ++ vs) × FitPlaces first.here first.more first.again (values ++ vs)
+  pub sized : names ≡ true → numbers ≡ true → words ≡ true → keeping ≡ true → length values + length left ≡ length all
+  pub many : names ≡ true → numbers ≡ true → words ≡ true → keeping ≡ false → most < length all
   pub short : length values ≤ most
 
 -- no word told anything
-pub record IsNothingTold (names numbers words few : Bool) (values : List Value) : Type 0 where
+pub record IsNothingTold (names numbers words keeping : Bool) (values : List Value) : Type 0 where
   pub named : names ≡ true
   pub numbered : numbers ≡ true
   pub worded : words ≡ true
-  pub counted : few ≡ true
+  pub counted : keeping ≡ true
   pub valued : values ≡ []

@@ -1,11 +1,11 @@
 //! The words of a line in their places.
 
-ghost use Rattle.std.specs.Prelude.{◌≡◌, ◌<◌, ◌≤◌, ◌++◌, ◌∷◌, [], true, Some, None, IfOk, OnOk, MatchBool, length, nat_lt, ◌&&◌};
+ghost use Rattle.std.specs.Prelude.{◌≡◌, ◌<◌, ◌≤◌, [], true, Some, None, IfOk, OnOk, OnErr, MatchBool, is_some, length, nat_lt, ◌&&◌};
 ghost use Rattle.std.specs.Option.{option_map};
 ghost use Rattle.rh_words.specs.Text.{words_of};
 ghost use Rattle.rh_words.specs.Values.{SayWords};
 ghost use Rattle.rh_words.specs.Places.{agrees, places_reason, passes_word, first_reason, FitPlaces};
-ghost use Rattle.rh_words.specs.PlaceWalks.{places, next_place, may_end, word_value, ToldBy, IsNothingTold};
+ghost use Rattle.rh_words.specs.PlaceWalks.{places, next_place, may_end, word_value, with_kept, ToldBy, IsNothingTold};
 ghost use Rattle.rh_words.specs.Refusals.{OnRefused};
 
 use crate::keyword::says_keyword;
@@ -68,60 +68,101 @@ impl PlaceWalk {
     }
 }
 
-/// What the word says in its place, or nothing where it does not fit.
-fn word_value(place: Place, word: &[u8]) -> Option<Value>
-    ensures { result ≡ word_value place word.now }
+/// One more value behind the others, where values are kept.
+fn keep(values: &mut Vec<Value>, keeping: bool, value: Value) -> Result<(), OutOfMemory>
+    ensures ok { OnOk result (values.new.items ≡ with_kept values.old.items (Some value) keeping) }
+    ensures err { OnErr result (values.new.items ≡ values.old.items) }
 {
-    match place {
-        Place::WordPlace(keyword) => says_keyword(word, keyword).then_some(Value::AWord(keyword)),
-        Place::NamePlace => Some(Value::AName(Name::read(word)?)),
-        Place::NumberPlace => Some(Value::ANumber(read_number(word).ok()?)),
-        Place::MaskPlace => Some(Value::AMask(read_number(word).ok()?)),
-        Place::PairPlace => {
-            let (first, second) = read_pair(word)?;
-            Some(Value::APair(first, second))
-        }
+    if keeping {
+        values.push(value)?;
     }
+    Ok(())
 }
 
-/// What words told: values as long as there are few, and whether names, numbers and other words were as they should be.
+/// Keeps what the word says in its place, where values are kept, and answers whether the word fits there.
+fn keep_word(
+    values: &mut Vec<Value>,
+    keeping: bool,
+    place: Place,
+    word: &[u8],
+) -> Result<bool, OutOfMemory>
+    ensures fits { IfOk result (λ fits. fits ≡ is_some (word_value place word.now)) }
+    ensures ok { OnOk result (values.new.items ≡ with_kept values.old.items (word_value place word.now) keeping) }
+    ensures err { OnErr result (values.new.items ≡ values.old.items) }
+{
+    match place {
+        Place::WordPlace(keyword) => {
+            if !says_keyword(word, keyword) {
+                return Ok(false);
+            }
+            keep(values, keeping, Value::AWord(keyword))?;
+        }
+        Place::NamePlace => {
+            let Some(name) = Name::read(word) else {
+                return Ok(false);
+            };
+            keep(values, keeping, Value::AName(name))?;
+        }
+        Place::NumberPlace => {
+            let Ok(number) = read_number(word) else {
+                return Ok(false);
+            };
+            keep(values, keeping, Value::ANumber(number))?;
+        }
+        Place::MaskPlace => {
+            let Ok(mask) = read_number(word) else {
+                return Ok(false);
+            };
+            keep(values, keeping, Value::AMask(mask))?;
+        }
+        Place::PairPlace => {
+            let Some((first, second)) = read_pair(word) else {
+                return Ok(false);
+            };
+            keep(values, keeping, Value::APair(first, second))?;
+        }
+    }
+    Ok(true)
+}
+
+/// What the words so far told.
 #[derive(Drop)]
 struct Told {
+    /// What they say, as long as all of it is kept.
     values: Vec<Value>,
+    /// Whether each word in the place of a name is a name.
     names: bool,
+    /// Whether each word in the place of a number, a mask or a pair is one.
     numbers: bool,
+    /// Whether each word in the place of a keyword is this keyword.
     words: bool,
-    few: bool,
+    /// Whether the value of each word that fits is kept: so it is until there are too many.
+    keeping: bool,
 }
 
 impl Told {
     /// Whether all values so far are kept, and one more may be.
     fn has_room(&self, most: usize) -> bool
-        ensures { result ≡ (self.now.few && nat_lt (length self.now.values.items) most) }
+        ensures { result ≡ (self.now.keeping && nat_lt (length self.now.values.items) most) }
     {
-        self.few && self.values.len() < most
+        self.keeping && self.values.len() < most
     }
 
     /// One more word, in this place. At most `most` values are kept.
     fn tell(&mut self, most: usize, place: Place, word: &[u8]) -> Result<(), OutOfMemory>
-        ensures told { OnOk result (ToldBy most self.old.names self.old.numbers self.old.words self.old.few self.old.values.items place word.now
-            self.new.names self.new.numbers self.new.words self.new.few self.new.values.items) }
+        ensures told { OnOk result (ToldBy most self.old.names self.old.numbers self.old.words self.old.keeping self.old.values.items place word.now
+            self.new.names self.new.numbers self.new.words self.new.keeping self.new.values.items) }
         ensures short { length self.old.values.items ≤ most → length self.new.values.items ≤ most }
     {
-        self.few = self.has_room(most);
-        match word_value(place, word) {
-            Some(value) => {
-                if self.few {
-                    self.values.push(value)?;
-                }
-            }
-            None => match place {
+        self.keeping = self.has_room(most);
+        if !keep_word(&mut self.values, self.keeping, place, word)? {
+            match place {
                 Place::WordPlace(_) => self.words = false,
                 Place::NamePlace => self.names = false,
                 Place::NumberPlace => self.numbers = false,
                 Place::MaskPlace => self.numbers = false,
                 Place::PairPlace => self.numbers = false,
-            },
+            }
         }
         Ok(())
     }
@@ -129,7 +170,7 @@ impl Told {
     /// Reads the words of a line, which stand in these places.
     #[inline(never)]
     fn read(&mut self, places: PlaceWalk, most: usize, line: &[u8]) -> Result<bool, Fault<Reason>>
-        requires { IsNothingTold self.old.names self.old.numbers self.old.words self.old.few self.old.values.items }
+        requires { IsNothingTold self.old.names self.old.numbers self.old.words self.old.keeping self.old.values.items }
         ensures ok { IfOk result (λ kept. MatchBool kept
             (SayWords (words_of line.now) self.new.values.items × FitPlaces places.here places.more places.again self.new.values.items)
             ((places_reason places.here places.more places.again (words_of line.now) ≡ None) × (most < length (words_of line.now)))) }
@@ -145,7 +186,7 @@ impl Told {
             self.tell(most, place, word)?;
         }
         if self.names && self.numbers && self.words && left.may_end() {
-            Ok(self.few)
+            Ok(self.keeping)
         } else {
             Err(Fault::Refused(first_reason(self.names, self.numbers)))
         }
@@ -191,7 +232,7 @@ impl LineValues {
                 names: true,
                 numbers: true,
                 words: true,
-                few: true,
+                keeping: true,
             },
         }
     }
@@ -222,7 +263,7 @@ impl LineValues {
         self.told.names = true;
         self.told.numbers = true;
         self.told.words = true;
-        self.told.few = true;
+        self.told.keeping = true;
         self.told.read(places, most, line)
     }
 }

@@ -78,7 +78,6 @@ impl MemShelf {
 }
 
 impl Shelf for MemShelf {
-
     ghost state = { λ s. record { file = λ n. Some (file_of n s.files); failed_reads = λ _. s.failed_reads; failed_writes = λ _. s.failed_writes } };
 
     fn read(&mut self, name: &str, limit: usize, into: &mut Bytes) -> ReadAnswer

@@ -49,7 +49,6 @@ impl NeverFails {
 }
 
 impl Shelf for NeverFails {
-
     ghost state = { λ s. record { file = λ n. option_map (λ bytes. Some bytes) (file_of n s); failed_reads = λ _. 0; failed_writes = λ _. 0 } };
 
     fn read(&mut self, name: &str, limit: usize, into: &mut Bytes) -> ReadAnswer

@@ -134,6 +134,7 @@ const REFUSED_PROGRAMS: &[(&[u8], &[u8])] = &[
     (REFUSED, REFUSED_MESSAGE),
     (b"rhc 9", b"rh: program line 1 reason 2 Header\n"),
     (b"", b"rh: program line 1 reason 2 Header\n"),
+    (b"rhc", b"rh: program line 1 reason 2 Header\n"),
     (b"rhc 1\r\n", b"rh: program line 1 reason 1 Byte\n"),
     (
         b"rhc 1\npromise\tx 1\n",
@@ -158,6 +159,18 @@ const REFUSED_PROGRAMS: &[(&[u8], &[u8])] = &[
     (
         b"rhc 1\ntask a plain\n",
         b"rh: program line 3 reason 7 EndMissing\n",
+    ),
+    (
+        b"rhc 1\npromise x 3\npromise y 3\ntask a",
+        b"rh: program line 4 reason 6 Count\n",
+    ),
+    (
+        b"rhc 1\npromise x 3\npromise y 3\ntask a plain",
+        b"rh: program line 5 reason 7 EndMissing\n",
+    ),
+    (
+        b"rhc 1\ntask a plain\nlet 9 sums a\n",
+        b"rh: program line 3 reason 3 Statement\n",
     ),
     (b"rhc 1\nend\n", b"rh: program line 2 reason 8 EndExtra\n"),
     (
@@ -195,6 +208,14 @@ const REFUSED_PROGRAMS: &[(&[u8], &[u8])] = &[
     (
         b"rhc 1\ntask a plain\nlet v gen 4096 0 9\nlet w join v v\nend\n",
         b"rh: program line 4 reason 17 Limit\n",
+    ),
+    (
+        b"rhc 1\npromise x 1\ntask a replay 1\nlet v lit 1\nput x v\ncheck user x nobody\nend\n",
+        b"rh: program line 6 reason 18 NoCheck\n",
+    ),
+    (
+        b"rhc 1\npromise x 1\ntask a plain\nlet v lit 1\nlet v sum u\nend\n",
+        b"rh: program line 5 reason 10 Twice\n",
     ),
 ];
 

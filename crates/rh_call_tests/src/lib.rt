@@ -1,6 +1,7 @@
 //! Tests of whole calls of the program, by `top` of rh_top over files and outputs in memory: calls without and under faults, the schemes of
 //! tasks, corrected products, handed-in checks and the gate. `examples` has the programs of the folder `examples` with their reports, and
-//! `library` runs a program by the calls of the crates below.
+//! `library` runs a program by the calls of the crates below;
+//! `printing` prints the examples.
 #![tactic(auto)]
 
 #[cfg(test)]
@@ -17,5 +18,7 @@ mod gate;
 mod handed_in;
 #[cfg(test)]
 mod library;
+#[cfg(test)]
+mod printing;
 #[cfg(test)]
 mod schemes;

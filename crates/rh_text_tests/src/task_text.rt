@@ -116,6 +116,7 @@ const OUTSIDE_OF_TASKS: &[u8] = b"\
 6 promise p 0 tmp\n\
 6 task t replicate 2\n\
 6 task t plain await\n\
+6 task t\n\
 6 end x\n\
 8 end\n\
 9 promise p 0\n\
@@ -167,6 +168,8 @@ const IN_TASKS: &[u8] = b"\
 0 end\n\
 3 promise p 1\n\
 3 let x dense a b 1 1 1\n\
+6 let\n\
+6 check\n\
 6 let x\n\
 6 let x lit\n\
 5 let x lit x\n\
@@ -183,6 +186,7 @@ const IN_TASKS: &[u8] = b"\
 6 drop q r\n\
 6 check linear p 0 q\n\
 4 check linear p 0 q 1 9 x\n\
+4 check linear p 0 q 1 abcdefghijklmnopqrstuvwxyz_012345 1\n\
 5 check linear p 0 q 1 r x\n\
 9 check conserve p l m r 1 64";
 

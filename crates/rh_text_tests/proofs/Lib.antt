@@ -1,0 +1,2 @@
+-- Worked examples of definitions.
+pub mod Examples

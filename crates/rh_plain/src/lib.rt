@@ -4,7 +4,7 @@
 //!
 //! # Example
 //!
-//! The whole library in one example: the text of a program is read, planned, run and reported. A test of rh_call_tests compiles and runs it.
+//! The whole library in one example: the text of a program is read, planned, run and reported. A test of rh_call_tests makes these calls.
 //!
 //! ```text
 //! let text = read_program(alloc, program)?;

@@ -1,7 +1,7 @@
 //! The edges of a plan.
 
 /// A dependency between nodes: `to` starts after `from` ended, and takes the promise from it, where there is one. An edge from a group to
-/// a node in it, and one from a member to its scope, carry none. All are numbers from 0.
+/// a task or group right in it, or in scopes in it, and one from a member to its scope, carry none. All are numbers from 0.
 #[derive(Clone, Copy, PartialEq, Eq)]
 pub struct Edge {
     pub from: u32,

@@ -1,6 +1,6 @@
-//! The report of a run: how each node and each attempt ended, and what each promise has. The crates above use `print_report`, which
-//! appends the text of the definition. It needs an outcome alone, by whatever it was run, and
-//! stands on the journals of rh_journal.
+//! The report of a run: how each node and each attempt ended, and what each promise has. The crate above uses `print_outcome`,
+//! which appends the text of the definition and answers whether a task failed; `print_report` and `has_failed` do one of the two. It needs an
+//! outcome alone, by whatever it was run, and stands on the journals of rh_journal.
 #![tactic(auto)]
 
 mod ends;

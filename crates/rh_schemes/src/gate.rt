@@ -1,6 +1,6 @@
 //! What is told of each attempt, before and after it.
 
-/// Is told of each attempt of a task, by the numbers of the worker, the node and the attempt, each from 0. Tests hold attempts by it.
+/// Is told of each attempt of a task, by the numbers of the worker, the node and the attempt, each from 0. A test counts attempts by it.
 pub trait Gate {
     /// The attempt is about to be made.
     fn before_attempt(&self, worker: u32, node: u32, attempt: u32);
@@ -9,7 +9,7 @@ pub trait Gate {
     fn after_attempt(&self, worker: u32, node: u32, attempt: u32);
 }
 
-/// Holds nothing.
+/// Does nothing.
 pub struct OpenGate;
 
 impl Gate for OpenGate {

@@ -16,15 +16,16 @@ use Rattle.rh_words.proofs.WordsInPlaces.{unreasoned}
 use Rattle.rh_words.proofs.SayableWords.{said_sayable}
 use Rattle.rh_injector.specs.declared.fault_text.FaultLine.{FaultLine}
 use Rattle.rh_injector.specs.FaultTexts.{first_place, fault_places, said, IsReason, IsBody, AreFaultText, AreLawfulFrom, IsLawfulText, Reads, FirstBad}
+use Rattle.rh_injector.specs.ReaderStates.{IsBegun}
 use Rattle.rh_injector.proofs.FaultWords.{fit_said}
-use Rattle.rh_injector.proofs.FaultPrefixes.{IsBegun, begun-bad}
+use Rattle.rh_injector.proofs.FaultPrefixes.{begun-bad}
 
 -- a test that answered false
 pub out_of_false : (b : Bool) (P : Type 0) → IsTrue b ↔ P → b ≡ false → P → ⊥
 out_of_false b P iff e p = false≢true (sym e ∙ iff.1 p)
 
 -- the refusal of a line is that of the text
-pub refused_text : (bytes : List ℕ) (number : ℕ) (line : List ℕ) (left : List (List ℕ)) (faults : List FaultLine) (fault : Fault Reason) → IsBegun bytes number (line ∷ left) faults → OnRefused {X = Unit {0}} (Err fault) (λ reason. IsReason line reason) → OnRefused {X = List FaultLine} (Err (fault_at number fault)) (λ refusal. FirstBad bytes refusal.line refusal.reason)
+pub refused_text : (bytes : List ℕ) (number : ℕ) (line : List ℕ) (left : List (List ℕ)) (faults : List FaultLine) (fault : Fault Reason) → IsBegun bytes number (line ∷ left) faults → OnRefused {X = Unit {0}} (Err fault) (λ reason. IsReason line reason) → OnRefused {X = Unit {0}} (Err (fault_at number fault)) (λ refusal. FirstBad bytes refusal.line refusal.reason)
 refused_text bytes number line left faults OutOfMemory begun refused = tt
 refused_text bytes number line left faults (Refused reason) begun refused = begun-bad bytes number line left faults reason begun refused
 
@@ -34,7 +35,7 @@ said_length ws (v ∷ vs) spelled = ap (λ (l : List (List ℕ)). length l) spel
 
 -- what reading the words of a line in these places answers
 abbrev pub Kept : Bool → List (List ℕ) → Places → List Value → Type 0
-Kept kept ws ps vs = MatchBool kept (SayWords ws vs × FitPlaces ps.here ps.more ps.again vs) ((places_reason ps.here ps.more ps.again ws ≡ None) × (6 < length ws))
+Kept kept ws ps vs = MatchBool kept (SayWords ws vs × FitPlaces ps.here ps.more ps.again vs) ((places_reason ps.here ps.more ps.again ws ≡ None) × (length fault_places < length ws))
 
 by_kept : (kept : Bool) (ws : List (List ℕ)) (vs : List Value) → Kept kept ws (places fault_places [] []) vs → SayWords ws vs × FitPlaces fault_places [] [] vs
 by_kept true ws vs h = h

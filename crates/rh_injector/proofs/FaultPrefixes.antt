@@ -11,7 +11,7 @@ use Rattle.rh_words.specs.declared.reason.Reason.TheVariants.{Byte, Header}
 use Rattle.rh_words.proofs.JoinedLines.{AreOneLine, IsOneLine, header_one, joined, lines_of-joined, printable_line}
 use Rattle.rh_injector.specs.declared.fault_text.FaultLine.{FaultLine}
 use Rattle.rh_injector.specs.FaultTexts.{IsBody, AreFaultText, IsFirstLine, IsReason, Reads, Begins, FirstBad}
-use Rattle.rh_injector.specs.ReaderStates.{AddsLine}
+use Rattle.rh_injector.specs.ReaderStates.{AddsLine, IsBegun}
 use Rattle.rh_injector.proofs.FaultWords.{said_unreasoned}
 use Rattle.rh_injector.proofs.FaultBodies.{IsBody-append, IsBody-parts}
 
@@ -38,15 +38,6 @@ begins_front lines more faults text =
 -- what begins a text begins lines that are one
 begun_lines : (lines : List (List ℕ)) → Begins lines → (more : List (List ℕ)) × (faults : List FaultLine) × AreFaultText (lines ++ more) faults
 begun_lines lines (bytes, faults, more, reads, is) = (more, faults, subst (λ (ls : List (List ℕ)). AreFaultText ls faults) is reads)
-
--- The lines up to this number are read, and these lines are left.
-pub record IsBegun (bytes : List ℕ) (number : ℕ) (left : List (List ℕ)) (faults : List FaultLine) : Type 0 where
-  pub first : List ℕ
-  pub done : List (List ℕ)
-  pub whole : lines_of bytes ≡ first ∷ (done ++ left)
-  pub header : IsFirstLine first
-  pub body : IsBody 2 done faults
-  pub count : number ≡ 2 + length done
 
 pub begun-header : (bytes : List ℕ) (first : List ℕ) (left : List (List ℕ)) → lines_of bytes ≡ first ∷ left → IsFirstLine first → IsBegun bytes 2 left []
 begun-header bytes first left whole header = record { first = first; done = []; whole = whole; header = header; body = refl; count = refl }

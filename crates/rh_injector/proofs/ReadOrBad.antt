@@ -10,9 +10,9 @@ use Rattle.rh_words.specs.declared.reason.Reason.{Reason}
 use Rattle.rh_words.specs.declared.reason.Reason.TheVariants.{Byte, Header}
 use Rattle.rh_injector.specs.declared.fault_text.FaultLine.{FaultLine}
 use Rattle.rh_injector.specs.FaultTexts.{words_reason, IsReason, Reads, FirstBad}
-use Rattle.rh_injector.specs.ReaderStates.{AddsLine}
+use Rattle.rh_injector.specs.ReaderStates.{AddsLine, IsBegun}
 use Rattle.rh_injector.proofs.FaultWords.{unreasoned_said}
-use Rattle.rh_injector.proofs.FaultPrefixes.{IsBegun, begun-header, begun-line, begun-bad, begun-end, header-bad, no_lines-bad}
+use Rattle.rh_injector.proofs.FaultPrefixes.{begun-header, begun-line, begun-bad, begun-end, header-bad, no_lines-bad}
 
 abbrev Decided : Type 0 → Type 0
 Decided P = P ⊎ (P → ⊥)

@@ -1,13 +1,13 @@
 //! Reading a fault text.
 
-ghost use Rattle.std.specs.Prelude.{◌≡◌, ◌<◌, ◌≤◌, ◌+◌, ◌-◌, ◌/◌, ◌^◌, ◌++◌, ◌∷◌, [], IfOk, OnOk, OnErr, length};
-ghost use Rattle.rh_words.specs.Text.{words_of, is_printable, SaysNothing};
+ghost use Rattle.std.specs.Prelude.{◌≡◌, ◌<◌, ◌≤◌, ◌+◌, ◌-◌, ◌/◌, ◌^◌, ◌++◌, ◌∷◌, [], ℕ, List, IfOk, OnOk, OnErr, length};
+ghost use Rattle.rh_words.specs.Text.{lines_of, words_of, is_printable, SaysNothing};
 ghost use Rattle.rh_words.specs.Places.{agrees, places_reason, FitPlaces};
 ghost use Rattle.rh_words.specs.PlaceWalks.{places};
 ghost use Rattle.rh_words.specs.Values.{IsAt};
 ghost use Rattle.rh_words.specs.Refusals.{OnRefused};
-ghost use Rattle.rh_injector.specs.FaultTexts.{first_place, fault_places, said, SaysFault, Reads, FirstBad, IsReason, IsLawfulText};
-ghost use Rattle.rh_injector.specs.ReaderStates.{AddsLine};
+ghost use Rattle.rh_injector.specs.FaultTexts.{first_place, fault_places, said, SaysFault, IsFirstLine, Reads, FirstBad, IsReason, IsLawfulText};
+ghost use Rattle.rh_injector.specs.ReaderStates.{AddsLine, IsBegun};
 
 use crate::fault_text::{FaultLine, FaultText};
 use rh_words::{
@@ -36,7 +36,29 @@ pub fn read_faults(alloc: Global, bytes: &[u8]) -> Result<FaultText, Fault<Refus
             reason: header_reason(first),
         }));
     }
+    read_body(alloc, bytes, lines)
+}
+
+/// Reads the lines below the first of a fault text.
+fn read_body(alloc: Global, bytes: &[u8], below: Lines<'_>) -> Result<FaultText, Fault<Refusal>>
+    requires short { length bytes.now < 2 ^ 32 - 1 }
+    requires below { (first : List ℕ) × IsFirstLine first × (lines_of bytes.now ≡ first ∷ below) }
+    ensures ok { IfOk result (λ text. Reads bytes.now text) }
+    ensures refused { OnRefused result (λ refusal. FirstBad bytes.now refusal.line refusal.reason) }
+{
     let mut reader = Reader::with_capacity(alloc, room_for_faults(bytes))?;
+    read_lines(bytes, below, &mut reader)?;
+    Ok(reader.into_text())
+}
+
+/// Reads all lines below the first of a fault text.
+fn read_lines(bytes: &[u8], below: Lines<'_>, reader: &mut Reader) -> Result<(), Fault<Refusal>>
+    requires short { length bytes.now < 2 ^ 32 - 1 }
+    requires begun { IsBegun bytes.now 2 below reader.old }
+    ensures ok { OnOk result (Reads bytes.now reader.new) }
+    ensures refused { OnRefused result (λ refusal. FirstBad bytes.now refusal.line refusal.reason) }
+{
+    let mut lines = below;
     let mut number: u32 = 2;
     while let Some(line) = lines.next() {
         if let Err(fault) = reader.line(number, line) {
@@ -44,7 +66,7 @@ pub fn read_faults(alloc: Global, bytes: &[u8]) -> Result<FaultText, Fault<Refus
         }
         number += 1;
     }
-    Ok(reader.into_text())
+    Ok(())
 }
 
 /// How many faults to make room for, so that they never move: one for each line feed, and at most one for each 15 bytes,
@@ -98,7 +120,9 @@ impl Reader {
         if !begins_fault(line.bytes) {
             return Err(Fault::Refused(Reason::Statement));
         }
-        let _kept = self.values.read(fault_places(), 6, line.bytes)?;
+        let _kept = self
+            .values
+            .read(fault_places(), FAULT_PLACES.len(), line.bytes)?;
         let fault = fault_of(number, self.values.as_slice());
         self.faults.push(fault)?;
         Ok(())
@@ -121,21 +145,20 @@ fn begins_fault(line: &[u8]) -> bool
 }
 
 /// The places of the words of a line.
+const FAULT_PLACES: &[Place] = &[
+    Place::WordPlace(Keyword::FaultWord),
+    Place::NamePlace,
+    Place::NumberPlace,
+    Place::NamePlace,
+    Place::NumberPlace,
+    Place::MaskPlace,
+];
+
+/// The places of the words of a line, after which it ends.
 fn fault_places() -> PlaceWalk
     ensures { result ≡ places fault_places [] [] }
 {
-    PlaceWalk::of(
-        &[
-            Place::WordPlace(Keyword::FaultWord),
-            Place::NamePlace,
-            Place::NumberPlace,
-            Place::NamePlace,
-            Place::NumberPlace,
-            Place::MaskPlace,
-        ],
-        &[],
-        &[],
-    )
+    PlaceWalk::of(FAULT_PLACES, &[], &[])
 }
 
 /// The fault that these values say.

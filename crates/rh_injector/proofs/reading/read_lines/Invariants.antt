@@ -1,6 +1,6 @@
 use Rattle.std.proofs.Common.{length}
-use Rattle.rh_injector.proofs.FaultPrefixes.{IsBegun}
-use Rattle.rh_injector.proofs.reading.read_faults.Given as goal
+use Rattle.rh_injector.specs.ReaderStates.{IsBegun}
+use Rattle.rh_injector.proofs.reading.read_lines.Given as goal
 
 abbrev pub invariant-loop-line : goal.invariant-loop-line
 invariant-loop-line l = IsBegun l.bytes l.number l.lines l.reader

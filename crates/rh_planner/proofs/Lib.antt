@@ -1,6 +1,7 @@
 pub mod Lets
 pub mod Puts
 pub mod CheckLines
+pub mod Checking
 pub mod Tasks
 pub mod Refusing
 pub mod Wholes

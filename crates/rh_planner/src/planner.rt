@@ -6,7 +6,7 @@ ghost use Rattle.rh_task_text.specs.declared.statement.Statement.TheVariants as 
 ghost use Rattle.rh_rules.specs.Facets.{facets, cells_of};
 ghost use Rattle.rh_rules.specs.Limits.{IsWithinLimits};
 ghost use Rattle.rh_rules.specs.declared.node.Scheme.TheVariants.{Plain};
-ghost use Rattle.rh_rules.specs.Above.{facts_above, planned_scheme, asked_place, group_in, lets_of, task_node, scope_node};
+ghost use Rattle.rh_rules.specs.Above.{facts_above, planned_scheme, asked_place, check_of, group_in, lets_of, task_node, scope_node};
 ghost use Rattle.rh_rules.specs.Rules.{is_bad_scheme, is_unanswered};
 ghost use Rattle.rh_rules.specs.Tables.{is_promise, promise_number, is_put, putting, put_all};
 ghost use Rattle.rh_tables.specs.Declarations.{declarations};
@@ -302,26 +302,8 @@ impl Planner {
         {
             return Ok(Some(reason));
         }
-        let Some(place) = asked_place(&self.handed, statement) else {
-            return Ok(Some(Reason::NoCheck));
-        };
-        let matrix = self.line.matrix;
-        let spec = spec_of(
-            statement,
-            place,
-            matrix.number,
-            &self.line.numbers,
-            matrix.shape,
-            len,
-            &self.line.lens,
-        );
-        let user = self.handed.named(&spec);
-        let check = PlannedCheck {
-            promise: number,
-            spec,
-        };
-        self.task.checks.push(check, user)?;
-        Ok(None)
+        let checks = &mut self.task.checks;
+        add_check(&self.handed, &self.line, checks, number, len, statement)
     }
 
     /// Closes the innermost block. A task and a scope that end are nodes.
@@ -519,6 +501,41 @@ fn planned_scheme(scheme: SchemeText) -> Scheme
         },
         SchemeText::Abft => Scheme::Abft,
     }
+}
+
+/// Adds the check of the promise of this number and length, whose awaits are looked up, or says that no handed-in check has the name that
+/// it asks.
+fn add_check(
+    handed: &Handed,
+    line: &LineUse,
+    checks: &mut CheckList,
+    promise: u32,
+    len: u32,
+    statement: &Statement,
+) -> Result<Option<Reason>, OutOfMemory>
+    requires read { length line.now.numbers.items ≡ length (facets statement.now).inputs }
+    requires lens { length line.now.lens.items ≡ length (facets statement.now).inputs }
+    requires within { IsWithinLimits statement.now }
+    requires suits { (facets statement.now).suits line.now.matrix.shape len line.now.lens.items ≡ true }
+    ensures reason { IfOk result (λ answer. answer ≡ cond (is_unanswered handed.now statement.now) (Some Reason.NoCheck) None) }
+    ensures added { IfOk result (λ answer. answer ≡ None → checks.new ≡ checks.old ++ check_of handed.now promise ((facets statement.now).spec (asked_place handed.now statement.now) line.now.matrix.number line.now.numbers.items) ∷ []) }
+{
+    let Some(place) = asked_place(handed, statement) else {
+        return Ok(Some(Reason::NoCheck));
+    };
+    let matrix = line.matrix;
+    let spec = spec_of(
+        statement,
+        place,
+        matrix.number,
+        &line.numbers,
+        matrix.shape,
+        len,
+        &line.lens,
+    );
+    let user = handed.named(&spec);
+    checks.push(PlannedCheck { promise, spec }, user)?;
+    Ok(None)
 }
 
 /// The place of the handed-in check that the check names, or 0 where it names none. It is `None` where none has the name.

@@ -3,6 +3,7 @@
 ghost use Rattle.std.specs.Prelude.{◌≡◌, ◌<◌, ◌≤◌, ◌++◌, ◌∷◌, [], List, ℕ, Some, None, IfOk, OnOk, OnErr, IfSome, is_some, length, true, false, not, cond, ◌&&◌};
 ghost use Rattle.rh_words.specs.declared.limits.TheConstants.{MAX_PROMISE_WORDS};
 ghost use Rattle.rh_words.specs.Naming.{is_name};
+ghost use Rattle.rh_words.specs.NameKeys.{name_key};
 ghost use Rattle.rh_rules.specs.Tables.{declared_promise, putting, is_among, promise_at, is_put};
 ghost use Rattle.rh_rules.specs.Rules.{is_promise_over};
 ghost use Rattle.rh_tables.specs.Declarations.{declarations, at_name, IsNoted};
@@ -81,12 +82,13 @@ impl Declared {
         ensures fresh { IfOk result (λ added. added ≡ not (is_among name self.old.names)) }
         ensures added { IfOk result (λ added. added ≡ true → self.new ≡ declarations (self.old.names ++ name ∷ []) self.old.promises) }
     {
-        if self.has(&name) {
+        let key = name.key();
+        if self.has(&name, &key) {
             return Ok(false);
         }
         keys_tell_names_apart();
         let _is_name = name.bytes();
-        note(&mut self.names, &mut self.known, name, None)?;
+        note(&mut self.names, &mut self.known, name, key, None)?;
         Ok(true)
     }
 
@@ -112,18 +114,27 @@ impl Declared {
         ensures reason { IfOk result (λ answer. answer ≡ promise_reason self.old.names self.old.promises (declared_promise name len temp scope)) }
         ensures added { IfOk result (λ answer. answer ≡ None → self.new ≡ declarations (self.old.names ++ name ∷ []) (self.old.promises ++ declared_promise name len temp scope ∷ [])) }
     {
-        if self.has(&name) {
+        let key = name.key();
+        if self.has(&name, &key) {
             return Ok(Some(Reason::Twice));
         }
         if self.is_over(len, temp, scope) {
             return Ok(Some(Reason::PlanLimit));
         }
-        self.add(name, len, temp, scope)?;
+        self.add(name, key, len, temp, scope)?;
         Ok(None)
     }
 
-    /// Adds a promise that is not refused.
-    fn add(&mut self, name: Name, len: u32, temp: bool, scope: bool) -> Result<(), OutOfMemory>
+    /// Adds a promise that is not refused, found by the key of its name.
+    fn add(
+        &mut self,
+        name: Name,
+        key: NameKey,
+        len: u32,
+        temp: bool,
+        scope: bool,
+    ) -> Result<(), OutOfMemory>
+        requires key { key ≡ name_key name }
         requires fresh { is_among name self.old.names ≡ false }
         requires room { is_promise_over self.old.promises (declared_promise name len temp scope) ≡ false }
         ensures added { OnOk result (self.new ≡ declarations (self.old.names ++ name ∷ []) (self.old.promises ++ declared_promise name len temp scope ∷ [])) }
@@ -138,7 +149,7 @@ impl Declared {
             temp,
             scope,
         })?;
-        if let Err(fault) = note(&mut self.names, &mut self.known, name, Some(number)) {
+        if let Err(fault) = note(&mut self.names, &mut self.known, name, key, Some(number)) {
             self.promises.pop();
             return Err(fault);
         }
@@ -147,12 +158,13 @@ impl Declared {
         Ok(())
     }
 
-    /// Whether the name is declared.
-    fn has(&self, name: &Name) -> bool
+    /// Whether the name, of which this is the key, is declared.
+    fn has(&self, name: &Name, key: &NameKey) -> bool
+        requires { key.now ≡ name_key name.now }
         ensures { result ≡ is_among name.now self.now.names }
     {
         let _is_name = name.bytes();
-        self.known.contains_key(&name.key())
+        self.known.contains_key(key)
     }
 
     /// The node of this number puts the promise, which nothing puts above.
@@ -173,20 +185,22 @@ fn shown_words(len: u32, temp: bool, scope: bool) -> u64
     if temp || scope { 0 } else { u64::from(len) }
 }
 
-/// Adds a name with its number.
+/// Adds a name with its number, which is found by the key of the name.
 fn note(
     names: &mut Vec<Name>,
     known: &mut HashMap<NameKey, Option<u32>>,
     name: Name,
+    key: NameKey,
     number: Option<u32>,
 ) -> Result<(), OutOfMemory>
+    requires { key ≡ name_key name }
     ensures names { OnOk result (names.new.items ≡ names.old.items ++ name ∷ []) }
     ensures noted { OnOk result (IsNoted known.old known.new name number) }
     ensures names_kept { OnErr result (names.new.items ≡ names.old.items) }
     ensures known_kept { OnErr result (known.new.entries ≡ known.old.entries) }
 {
     names.push(name)?;
-    match known.insert(name.key(), number) {
+    match known.insert(key, number) {
         Ok(_) => Ok(()),
         Err(_) => {
             names.pop();

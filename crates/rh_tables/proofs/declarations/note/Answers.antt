@@ -5,4 +5,4 @@ use Rattle.rh_tables.specs.Declarations.{at_name}
 use Rattle.rh_tables.proofs.declarations.note.Goals as goal
 
 pub returns-in-Ok-clause-noted : goal.returns-in-Ok-clause-noted
-returns-in-Ok-clause-noted c = λ q. c.in-Ok.ensures.updates.0 (name_key q) ∙ ap (λ (k : NameKey). cond (keys_eq k (name_key q)) (Some c.args.number) (at_name c.args.known.now q)) c.key.ensures
+returns-in-Ok-clause-noted c = λ q. c.in-Ok.ensures.updates.0 (name_key q) ∙ ap (λ (k : NameKey). cond (keys_eq k (name_key q)) (Some c.args.number) (at_name c.args.known.now q)) c.requires

@@ -1,4 +1,4 @@
-use Rattle.std.proofs.Common.{◌≡◌, ◌∙◌, ◌++◌, ◌∷◌, [], List, ℕ, ap, sym, not, true, false, map, take}
+use Rattle.std.proofs.Common.{◌∙◌, ◌++◌, ◌∷◌, [], List, ℕ, ap, sym, not, map, take}
 use Rattle.rh_rules.specs.Tables.{number_of}
 use Rattle.rh_rules.specs.Rules.{is_among_first}
 use Rattle.rh_tables.proofs.Finding.{one_found, none_more, mapped_more}

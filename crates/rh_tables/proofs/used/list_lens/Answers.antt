@@ -1,4 +1,4 @@
-use Rattle.std.proofs.Common.{◌≡◌, ◌∙◌, ◌++◌, ◌∷◌, [], List, ℕ, ap, sym, map, take}
+use Rattle.std.proofs.Common.{◌∙◌, ◌++◌, ◌∷◌, [], List, ℕ, ap, sym, map, take}
 use Rattle.std.specs.Prelude.{slice_index}
 use Rattle.rh_rules.specs.Tables.{lens_of}
 use Rattle.rh_tables.proofs.Finding.{mapped_more}

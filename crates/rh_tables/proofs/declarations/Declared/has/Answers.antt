@@ -11,4 +11,4 @@ use Rattle.rh_tables.proofs.declarations.Declared.has.Goals as goal
 pub returns : goal.returns
 returns c =
     let name : is_name c.args.name.now ≡ true = ap is_name (sym c.bytes-is_name.ensures.value) ∙ c.bytes-is_name.ensures.name in
-    c.contains_key.ensures ∙ ap (λ (k : NameKey). is_some (get keys_eq c.self.inside.known k)) c.key.ensures ∙ c.self.invariant.there c.args.name.now name ∙ ap (λ (t : Declarations). is_among c.args.name.now t.names) c.self.view_is
+    c.contains_key.ensures ∙ ap (λ (k : NameKey). is_some (get keys_eq c.self.inside.known k)) c.requires ∙ c.self.invariant.there c.args.name.now name ∙ ap (λ (t : Declarations). is_among c.args.name.now t.names) c.self.view_is

@@ -2,6 +2,7 @@ pub mod Lets
 pub mod Puts
 pub mod CheckLines
 pub mod Checking
+pub mod Closing
 pub mod Tasks
 pub mod Refusing
 pub mod Wholes

@@ -1,5 +1,5 @@
 -- What the planner keeps of the statements above a line.
-use Rattle.std.specs.Prelude.{◌≡◌, ◌≤◌, ◌<◌, ◌+◌, List, [], ◌∷◌, Option, Some, None, true, false, length, ⊤}
+use Rattle.std.specs.Prelude.{ℕ, ◌≡◌, ◌≤◌, ◌<◌, ◌+◌, List, [], ◌∷◌, Option, Some, None, true, false, length, ⊤}
 use Rattle.std.specs.List.{AllByRecursion}
 use Rattle.rh_words.specs.declared.limits.TheConstants.{MAX_NODES, MAX_AWAITS, MAX_LETS, MAX_MATRICES, MAX_MATRIX_SIDE}
 use Rattle.rh_words.specs.declared.reason.Reason.{Reason}
@@ -8,11 +8,13 @@ use Rattle.rh_task_text.specs.declared.statement.Statement.TheVariants.{Row}
 use Rattle.rh_sparse.specs.Matrix.{MatrixData, IsRow}
 use Rattle.rh_rules.specs.Facets.{cells_of}
 use Rattle.rh_rules.specs.declared.node.PlannedPromise.{PlannedPromise}
-use Rattle.rh_rules.specs.Tables.{is_promise, is_put}
+use Rattle.rh_rules.specs.declared.node.Node.{Node}
+use Rattle.rh_rules.specs.Tables.{is_promise, is_put, promise_number}
 use Rattle.rh_rules.specs.declared.block.OpenBlock.{OpenBlock}
 use Rattle.rh_rules.specs.declared.block.OpenBlock.TheVariants.{TaskBlock, MatrixBlock, GroupBlock, ScopeBlock}
-use Rattle.rh_rules.specs.Above.{Facts}
+use Rattle.rh_rules.specs.Above.{Facts, lets_of, task_node, scope_node}
 use Rattle.rh_rules.specs.Rules.{reason_in}
+use Rattle.rh_tables.specs.declared.open_task.OpenTask.{OpenTask}
 use Rattle.rh_planner.specs.declared.planner.Planner.{Planner}
 use Rattle.rh_planner.specs.Planned.{look_above}
 use Rattle.rh_planner.specs.Following.{after}
@@ -72,6 +74,14 @@ IsClosable promises (TaskBlock name ∷ outer) = ⊤
 IsClosable promises (GroupBlock number ∷ outer) = ⊤
 IsClosable promises (MatrixBlock ∷ outer) = ⊤
 IsClosable promises [] = ⊤
+
+-- the node that the end of this block adds, in this group and below so many nodes: that of the open task, or of a scope
+abbrev pub nodes_ended : OpenTask → List PlannedPromise → ℕ → Option ℕ → Option OpenBlock → List Node
+nodes_ended task promises count group None = []
+nodes_ended task promises count group (Some (TaskBlock name)) = task_node name task.scheme task.inputs (lets_of task.inputs task.locals.items) group task.body task.checks ∷ []
+nodes_ended task promises count group (Some (ScopeBlock name first)) = scope_node name (promise_number promises name) group first count ∷ []
+nodes_ended task promises count group (Some (GroupBlock number)) = []
+nodes_ended task promises count group (Some MatrixBlock) = []
 
 -- the matrix that is begun takes the row, where the statement is one
 abbrev pub TakesRow : Option MatrixData → Statement → Type 0

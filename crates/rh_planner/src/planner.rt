@@ -1,19 +1,19 @@
 //! Planning a text line by line: its names become numbers.
 
-ghost use Rattle.std.specs.Prelude.{◌≡◌, ◌<◌, ◌≤◌, ◌++◌, ◌∷◌, [], IfOk, OnOk, Some, None, cond, length, map, true, false, not, slice_get, slice_index};
+ghost use Rattle.std.specs.Prelude.{◌≡◌, ◌<◌, ◌≤◌, ◌++◌, ◌∷◌, [], IfOk, OnOk, Some, None, cond, length, map, true, false, not, ◌&&◌, nat_le, option_to_list, slice_get, slice_index};
 ghost use Rattle.rh_words.specs.declared.limits.TheConstants.{MAX_PROMISE_WORDS, MAX_NODES, MAX_MATRIX_SIDE, MAX_CELL_VALUE};
 ghost use Rattle.rh_task_text.specs.declared.statement.Statement.TheVariants as text;
 ghost use Rattle.rh_rules.specs.Facets.{facets, cells_of};
 ghost use Rattle.rh_rules.specs.Limits.{IsWithinLimits};
 ghost use Rattle.rh_rules.specs.declared.node.Scheme.TheVariants.{Plain};
-ghost use Rattle.rh_rules.specs.Above.{facts_above, planned_scheme, asked_place, check_of, group_in, lets_of, task_node, scope_node};
-ghost use Rattle.rh_rules.specs.Rules.{is_bad_scheme, is_unanswered};
+ghost use Rattle.rh_rules.specs.Above.{facts_above, planned_scheme, asked_place, check_of, group_in, lets_of, task_node, scope_node, put_at_end};
+ghost use Rattle.rh_rules.specs.Rules.{is_bad_scheme, is_node_line, is_unanswered};
 ghost use Rattle.rh_rules.specs.Tables.{is_promise, promise_number, is_put, putting, put_all};
 ghost use Rattle.rh_tables.specs.Declarations.{declarations};
 ghost use Rattle.rh_tables.specs.Making.{start_reason, node_reason};
 ghost use Rattle.rh_planner.specs.Planned.{look_above};
 ghost use Rattle.std.specs.List.{list_any, AllByRecursion};
-ghost use Rattle.rh_planner.specs.States.{HasFacts, HasRoom, IsClosable, Judges, TakesRow};
+ghost use Rattle.rh_planner.specs.States.{HasFacts, HasRoom, IsClosable, Judges, TakesRow, nodes_ended};
 
 use crate::planned::Drafts;
 use rh_check::Matrices;
@@ -318,24 +318,9 @@ impl Planner {
         }
         let block = self.blocks.pop();
         let group = self.blocks.group();
-        match &block {
-            Some(OpenBlock::TaskBlock(name)) => {
-                end_task(alloc, &mut self.nodes, &mut self.task, group, *name)?;
-            }
-            Some(OpenBlock::ScopeBlock { name, first }) => {
-                if self.nodes.len() >= MAX_NODES {
-                    return Ok(Some(Reason::PlanLimit));
-                }
-                end_scope(
-                    alloc,
-                    &mut self.nodes,
-                    &mut self.declared,
-                    group,
-                    *name,
-                    *first,
-                )?;
-            }
-            _ => {}
+        let (nodes, declared) = (&mut self.nodes, &mut self.declared);
+        if let Some(reason) = end_block(alloc, nodes, declared, &mut self.task, group, block)? {
+            return Ok(Some(reason));
         }
         close_matrix(alloc, &mut self.closed, self.begun.take())?;
         self.task.clear(alloc);
@@ -417,6 +402,34 @@ fn node_reason(count: usize, scheme: SchemeText) -> Option<Reason>
     } else {
         None
     }
+}
+
+/// Adds the node of the block in this group, which ends, where it is a task or a scope. A scope is refused where its node finds no room.
+fn end_block(
+    alloc: Global,
+    nodes: &mut Vec<Node>,
+    declared: &mut Declared,
+    task: &mut OpenTask,
+    group: Option<u32>,
+    block: Option<OpenBlock>,
+) -> Result<Option<Reason>, OutOfMemory>
+    requires few { length nodes.old.items ≤ MAX_NODES }
+    requires closable { IsClosable declared.old.promises (option_to_list block) }
+    ensures reason { IfOk result (λ answer. answer ≡ cond (is_node_line (option_to_list block) text.End && nat_le MAX_NODES (length nodes.old.items)) (Some Reason.PlanLimit) None) }
+    ensures nodes { IfOk result (λ answer. answer ≡ None → nodes.new.items ≡ nodes.old.items ++ nodes_ended task.old declared.old.promises (length nodes.old.items) group block) }
+    ensures declared { IfOk result (λ answer. answer ≡ None → declared.new ≡ declarations declared.old.names (put_all (put_at_end (length nodes.old.items) (option_to_list block)) declared.old.promises)) }
+{
+    match &block {
+        Some(OpenBlock::TaskBlock(name)) => end_task(alloc, nodes, task, group, *name)?,
+        Some(OpenBlock::ScopeBlock { name, first }) => {
+            if nodes.len() >= MAX_NODES {
+                return Ok(Some(Reason::PlanLimit));
+            }
+            end_scope(alloc, nodes, declared, group, *name, *first)?;
+        }
+        _ => {}
+    }
+    Ok(None)
 }
 
 /// Adds the node of the task in this group, which ends.

@@ -1,12 +1,12 @@
 //! Reading a fault text.
 
-ghost use Rattle.std.specs.Prelude.{◌≡◌, ◌<◌, ◌≤◌, ◌+◌, ◌-◌, ◌/◌, ◌^◌, ◌++◌, ◌∷◌, [], ℕ, List, IfOk, OnOk, OnErr, length};
-ghost use Rattle.rh_words.specs.Text.{lines_of, words_of, is_printable, SaysNothing};
-ghost use Rattle.rh_words.specs.Places.{agrees, places_reason, FitPlaces};
+ghost use Rattle.std.specs.Prelude.{◌≡◌, ◌<◌, ◌≤◌, ◌+◌, ◌-◌, ◌/◌, ◌^◌, ◌∷◌, [], ℕ, List, IfOk, OnOk, length};
+ghost use Rattle.rh_words.specs.Text.{lines_of, words_of, is_printable};
+ghost use Rattle.rh_words.specs.Places.{agrees, FitPlaces};
 ghost use Rattle.rh_words.specs.PlaceWalks.{places};
 ghost use Rattle.rh_words.specs.Values.{IsAt};
 ghost use Rattle.rh_words.specs.Refusals.{OnRefused};
-ghost use Rattle.rh_injector.specs.FaultTexts.{first_place, fault_places, said, SaysFault, IsFirstLine, Reads, FirstBad, IsReason, IsLawfulText};
+ghost use Rattle.rh_injector.specs.FaultTexts.{first_place, fault_places, said, IsFirstLine, Reads, FirstBad, IsReason, IsLawfulText};
 ghost use Rattle.rh_injector.specs.ReaderStates.{AddsLine, IsBegun};
 
 use crate::fault_text::{FaultLine, FaultText};

@@ -1,9 +1,9 @@
 //! Await lists.
 
-ghost use Rattle.std.specs.Prelude.{◌≡◌, ◌<◌, ◌≤◌, [], IfOk, None, Some, length, map, true, false, not, slice_get, is_some, unwrap_or};
+ghost use Rattle.std.specs.Prelude.{◌≡◌, ◌<◌, [], IfOk, None, Some, map, true, false, not, slice_get, is_some, unwrap_or};
 ghost use Rattle.std.specs.List.{list_any};
 ghost use Rattle.std.specs.Option.{option_map};
-ghost use Rattle.rh_rules.specs.Tables.{is_among, if_any, is_promise, promise_number, is_put, promise_len};
+ghost use Rattle.rh_rules.specs.Tables.{is_among, if_any, is_promise, promise_number};
 ghost use Rattle.rh_rules.specs.Rules.{are_distinct};
 ghost use Rattle.rh_rules.specs.Above.{await_local};
 ghost use Rattle.rh_tables.specs.Making.{await_reason};

@@ -1,12 +1,11 @@
 //! The names and promises that the lines above declare.
 
-ghost use Rattle.std.specs.Prelude.{◌≡◌, ◌<◌, ◌≤◌, ◌++◌, ◌∷◌, [], List, ℕ, Some, None, IfOk, OnOk, OnErr, IfSome, is_some, length, true, false, not, cond, ◌&&◌};
+ghost use Rattle.std.specs.Prelude.{◌≡◌, ◌<◌, ◌≤◌, ◌++◌, ◌∷◌, [], List, ℕ, Some, None, IfOk, OnOk, OnErr, IfSome, length, true, false, not, cond, ◌&&◌};
 ghost use Rattle.rh_words.specs.declared.limits.TheConstants.{MAX_PROMISE_WORDS};
-ghost use Rattle.rh_words.specs.Naming.{is_name};
 ghost use Rattle.rh_words.specs.NameKeys.{name_key};
 ghost use Rattle.rh_rules.specs.Tables.{declared_promise, putting, is_among, promise_at, is_put};
 ghost use Rattle.rh_rules.specs.Rules.{is_promise_over};
-ghost use Rattle.rh_tables.specs.Declarations.{declarations, at_name, IsNoted};
+ghost use Rattle.rh_tables.specs.Declarations.{declarations, IsNoted};
 ghost use Rattle.rh_tables.specs.Making.{promise_reason};
 ghost use Rattle.rh_rules.specs.Tables.{put_all};
 

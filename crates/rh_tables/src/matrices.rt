@@ -1,11 +1,9 @@
 //! The matrices while a text is planned.
 
-ghost use Rattle.std.specs.Prelude.{◌≡◌, ◌<◌, ◌≤◌, ◌++◌, ◌∷◌, [], IfOk, OnOk, IfSome, Some, None, cond, length, position, option_to_list};
-ghost use Rattle.std.specs.Str.{bytes_eq};
+ghost use Rattle.std.specs.Prelude.{◌≡◌, ◌<◌, ◌≤◌, ◌++◌, OnOk, IfSome, Some, None, cond, length, option_to_list};
 ghost use Rattle.std.specs.List.{AllByRecursion};
-ghost use Rattle.std.specs.Option.{option_map};
 ghost use Rattle.rh_words.specs.declared.limits.TheConstants.{MAX_MATRICES, MAX_MATRIX_SIDE, MAX_CELL_VALUE};
-ghost use Rattle.rh_sparse.specs.Matrix.{matrix_data, IsRow};
+ghost use Rattle.rh_sparse.specs.Matrix.{IsRow};
 ghost use Rattle.rh_rules.specs.Facets.{cells_of};
 ghost use Rattle.rh_rules.specs.Tables.{matrix_at};
 ghost use Rattle.rh_rules.specs.Above.{matrix_used, shape_used, with_row};

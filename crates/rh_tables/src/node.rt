@@ -1,6 +1,6 @@
 //! The nodes: a task and a scope that ended, a group that is opened.
 
-ghost use Rattle.std.specs.Prelude.{◌≡◌, ◌-◌, IfOk, length, drop, map, option_to_list};
+ghost use Rattle.std.specs.Prelude.{◌≡◌, ◌-◌, IfOk, map, option_to_list};
 ghost use Rattle.std.specs.List.{range_with_len};
 ghost use Rattle.rh_rules.specs.Bodies.{promises_put, put_at};
 ghost use Rattle.rh_rules.specs.Above.{task_node, lets_of, group_node, scope_node};

@@ -6,7 +6,7 @@ ghost use Rattle.rh_task_text.specs.declared.statement.Statement.TheVariants as 
 ghost use Rattle.rh_rules.specs.Facets.{facets, cells_of};
 ghost use Rattle.rh_rules.specs.Limits.{IsWithinLimits};
 ghost use Rattle.rh_rules.specs.declared.node.Scheme.TheVariants.{Plain};
-ghost use Rattle.rh_rules.specs.Above.{facts_above, planned_scheme, asked_place, check_of, group_in, lets_of, task_node, scope_node, put_at_end};
+ghost use Rattle.rh_rules.specs.Above.{facts_above, planned_scheme, asked_place, check_of, group_in, group_node, lets_of, task_node, scope_node, put_at_end};
 ghost use Rattle.rh_rules.specs.Rules.{is_bad_scheme, is_node_line, is_unanswered};
 ghost use Rattle.rh_rules.specs.Tables.{is_promise, promise_number, is_put, putting, put_all};
 ghost use Rattle.rh_tables.specs.Declarations.{declarations};
@@ -205,7 +205,6 @@ impl Planner {
     }
 
     /// Opens a task, whose awaits look at what stands above.
-    #[tactic(auto, using(crate::proofs::Tasks::reason_task), unfolding(rh_rules::specs::Facets::facets))]
     fn task(
         &mut self,
         alloc: Global,
@@ -232,7 +231,6 @@ impl Planner {
     }
 
     /// Opens a group, whose awaits look at what stands above.
-    #[tactic(auto, using(crate::proofs::Tasks::reason_group), unfolding(rh_rules::specs::Facets::facets))]
     fn group(
         &mut self,
         alloc: Global,
@@ -250,12 +248,9 @@ impl Planner {
         if let Some(reason) = start(&mut self.declared, inputs, count, name, scheme, names)? {
             return Ok(Some(reason));
         }
-        let number = count as u32;
-        let inputs = mem::replace(&mut self.task.inputs, Numbers::new(alloc));
-        let node = group_node(alloc, name, inputs, self.blocks.group());
-        self.nodes.push(node)?;
+        let inputs = &mut self.task.inputs;
+        open_group(alloc, &mut self.nodes, &mut self.blocks, inputs, name)?;
         self.begun = None;
-        self.blocks.push(OpenBlock::GroupBlock(number))?;
         Ok(None)
     }
 
@@ -307,7 +302,6 @@ impl Planner {
     }
 
     /// Closes the innermost block. A task and a scope that end are nodes.
-    #[tactic(auto, unfolding(rh_rules::specs::Facets::facets))]
     fn end(&mut self, alloc: Global) -> Result<Option<Reason>, OutOfMemory>
         requires room { HasRoom self.old }
         requires closable { IsClosable self.old.declared.promises self.old.blocks }
@@ -389,6 +383,26 @@ fn start(
         return Ok(Some(reason));
     }
     Ok(node_reason(count, scheme))
+}
+
+/// Adds the node of a group that awaits the promises of these numbers, and opens its block. The list is then empty.
+fn open_group(
+    alloc: Global,
+    nodes: &mut Vec<Node>,
+    blocks: &mut Blocks,
+    inputs: &mut Numbers,
+    name: Name,
+) -> Result<(), OutOfMemory>
+    requires few { length nodes.old.items ≤ MAX_NODES }
+    ensures nodes { OnOk result (nodes.new.items ≡ nodes.old.items ++ group_node name inputs.old (group_in blocks.old) ∷ []) }
+    ensures blocks { OnOk result (blocks.new ≡ OpenBlock.GroupBlock (length nodes.old.items) ∷ blocks.old) }
+    ensures inputs { inputs.new ≡ [] }
+{
+    let number = nodes.len() as u32;
+    let awaits = mem::replace(inputs, Numbers::new(alloc));
+    let node = group_node(alloc, name, awaits, blocks.group());
+    nodes.push(node)?;
+    blocks.push(OpenBlock::GroupBlock(number))
 }
 
 /// Why a node of this scheme is refused below so many nodes.

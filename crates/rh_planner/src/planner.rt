@@ -1,9 +1,9 @@
 //! Planning a text line by line: its names become numbers.
 
-ghost use Rattle.std.specs.Prelude.{◌≡◌, ◌<◌, ◌≤◌, ◌++◌, ◌∷◌, [], IfOk, OnOk, Some, None, cond, length, map, true, false, not, ◌&&◌, nat_le, option_to_list, slice_get, slice_index};
+ghost use Rattle.std.specs.Prelude.{◌≡◌, ◌<◌, ◌≤◌, ◌++◌, ◌∷◌, [], IfOk, OnOk, Some, None, cond, length, map, true, false, ◌&&◌, nat_le, option_to_list, slice_get, slice_index};
 ghost use Rattle.rh_words.specs.declared.limits.TheConstants.{MAX_PROMISE_WORDS, MAX_NODES, MAX_MATRIX_SIDE, MAX_CELL_VALUE};
 ghost use Rattle.rh_task_text.specs.declared.statement.Statement.TheVariants as text;
-ghost use Rattle.rh_rules.specs.Facets.{facets, cells_of};
+ghost use Rattle.rh_rules.specs.Facets.{facets};
 ghost use Rattle.rh_rules.specs.Limits.{IsWithinLimits};
 ghost use Rattle.rh_rules.specs.declared.node.Scheme.TheVariants.{Plain};
 ghost use Rattle.rh_rules.specs.Above.{facts_above, planned_scheme, asked_place, check_of, group_in, group_node, lets_of, task_node, scope_node, put_at_end};
@@ -12,7 +12,7 @@ ghost use Rattle.rh_rules.specs.Tables.{is_promise, promise_number, is_put, putt
 ghost use Rattle.rh_tables.specs.Declarations.{declarations};
 ghost use Rattle.rh_tables.specs.Making.{start_reason, node_reason};
 ghost use Rattle.rh_planner.specs.Planned.{look_above};
-ghost use Rattle.std.specs.List.{list_any, AllByRecursion};
+ghost use Rattle.std.specs.List.{AllByRecursion};
 ghost use Rattle.rh_planner.specs.States.{HasFacts, HasRoom, IsClosable, Judges, TakesRow, nodes_ended};
 
 use crate::planned::Drafts;

@@ -1,6 +1,6 @@
 //! Planning a whole text.
 
-ghost use Rattle.std.specs.Prelude.{◌≡◌, [], IfOk, OnOk};
+ghost use Rattle.std.specs.Prelude.{[], IfOk, OnOk};
 ghost use Rattle.rh_rules.specs.Bodies.{shapes_of};
 ghost use Rattle.rh_words.specs.Refusals.{OnRefused};
 ghost use Rattle.rh_rules.specs.Lawful.{AreLawful};

@@ -8,6 +8,9 @@ use Rattle.rh_rules.specs.Rules.{is_promise_over}
 use Rattle.rh_tables.proofs.Declaring.{promise_found, same_found}
 use Rattle.rh_tables.proofs.declarations.Declared.add.Goals as goal
 
+pub invariant_of-self : goal.invariant_of-self
+invariant_of-self c = rw c.in_err-push.ensures.items c.self.invariant
+
 pub invariant_of-self-2 : goal.invariant_of-self-2
 invariant_of-self-2 c =
     let p = declared_promise c.args.name c.args.len c.args.temp c.args.scope in

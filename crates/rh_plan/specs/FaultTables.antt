@@ -61,6 +61,13 @@ IsNotAdded plan before line reason =
     (fault_reason plan [] line ≡ Some reason)
     ⊎ ((fault_reason plan [] line ≡ None) × (names_place before (strike_of plan line) ≡ true) × (reason ≡ FaultTwice))
 
+-- why a line that names this task names no word of its locals in an attempt that it may make
+abbrev pub word_reason : List Shape → List PlannedPromise → Node → FaultLine → Option Reason
+word_reason shapes promises node fault =
+    cond (nat_le (attempts_of node.scheme) fault.attempt) (Some Attempt)
+    (cond (is_none (local_number promises fault.local node)) (Some Local)
+    (cond (if_any (λ i. nat_le (slice_index (local_lens shapes promises node) i) fault.word) (local_number promises fault.local node)) (Some BadWord) None))
+
 -- why a line that names this task is refused, but for a place that stands above
 abbrev pub reason_in_task : List Shape → List PlannedPromise → Node → FaultLine → Option Reason
 reason_in_task shapes promises node fault =

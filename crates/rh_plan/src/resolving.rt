@@ -2,14 +2,15 @@
 
 ghost use Rattle.std.specs.Prelude.{◌≡◌, ◌<◌, ◌≤◌, ◌+◌, ◌^◌, [], None, Some, IfOk, IfSome, OnOk, length, position, slice_index};
 ghost use Rattle.std.specs.Str.{bytes_eq};
-ghost use Rattle.rh_words.specs.declared.limits.TheConstants.{MAX_PROMISE_WORDS};
+ghost use Rattle.rh_words.specs.declared.limits.TheConstants.{MAX_AWAITS, MAX_LETS, MAX_PROMISE_WORDS};
 ghost use Rattle.rh_words.specs.Refusals.{OnRefused};
 ghost use Rattle.rh_rules.specs.declared.node.Kind.TheVariants.{Task};
 ghost use Rattle.rh_rules.specs.Bodies.{shapes_of};
 ghost use Rattle.rh_rules.specs.Lawful.{IsLawfulTask, local_lens};
 ghost use Rattle.rh_plan.specs.FaultLines.{AreFaultsOfText, FirstBadFault, fault_reason, local_number, strike_of};
-ghost use Rattle.rh_plan.specs.FaultTables.{AreTasksNumbered, AddsFault, IsNotAdded, reason_in_task, strike_in_task, name_at};
+ghost use Rattle.rh_plan.specs.FaultTables.{AreFaultsBelow, AreTasksNumbered, AddsFault, IsNotAdded, reason_in_task, word_reason, strike_in_task, name_at};
 ghost use Rattle.rh_plan.specs.FaultsOfPlans.{AreFaultsOf};
+ghost use Rattle.rh_plan.specs.Lawful.{IsLawfulPlan};
 
 use crate::attempt_limit::attempts_of;
 use crate::local_lens::local_lens;
@@ -28,17 +29,51 @@ pub fn resolve(alloc: Global, text: &FaultText, plan: &Plan) -> Result<Faults, F
     ensures plans { IfOk result (AreFaultsOf plan.now) }
     ensures refused { OnRefused result (λ refusal. FirstBadFault plan.now text.now refusal.line refusal.reason) }
 {
-    let tasks = TaskNumbers::of(alloc, plan.node_list())?;
     let mut named = NamedFaults::new(alloc);
-    for fault in text.lines() {
-        let line = fault.line;
-        if let Err(error) = add_fault(alloc, plan, &tasks, fault, &mut named) {
-            return Err(at_line(line, error));
-        }
-    }
+    name_faults(alloc, text, plan, &mut named)?;
     let faults = named.into_faults(alloc)?;
     let _in_order = faults.as_slice();
     Ok(faults)
+}
+
+/// Adds the faults of all lines to none, up to the first line that is refused. Every plan is lawful.
+fn name_faults(
+    alloc: Global,
+    text: &FaultText,
+    plan: &Plan,
+    named: &mut NamedFaults,
+) -> Result<(), Fault<Refusal>>
+    requires { named.old ≡ [] }
+    ensures ok { OnOk result (AreFaultsBelow plan.now text.now (length text.now) named.new) }
+    ensures few { OnOk result (length named.new < 2 ^ 32) }
+    ensures refused { OnRefused result (λ refusal. FirstBadFault plan.now text.now refusal.line refusal.reason) }
+    ensures lawful { IsLawfulPlan plan.now }
+{
+    let tasks = TaskNumbers::of(alloc, plan.node_list())?;
+    add_faults(alloc, text, plan, &tasks, named)
+}
+
+/// Adds the fault of line after line to none, where these numbers are the tasks'.
+fn add_faults(
+    alloc: Global,
+    text: &FaultText,
+    plan: &Plan,
+    tasks: &TaskNumbers,
+    named: &mut NamedFaults,
+) -> Result<(), Fault<Refusal>>
+    requires tasks { AreTasksNumbered tasks.now.known plan.now.nodes }
+    requires none { named.old ≡ [] }
+    ensures ok { OnOk result (AreFaultsBelow plan.now text.now (length text.now) named.new) }
+    ensures few { OnOk result (length named.new < 2 ^ 32) }
+    ensures refused { OnRefused result (λ refusal. FirstBadFault plan.now text.now refusal.line refusal.reason) }
+{
+    for fault in text.lines() {
+        let line = fault.line;
+        if let Err(error) = add_fault(alloc, plan, tasks, fault, named) {
+            return Err(at_line(line, error));
+        }
+    }
+    Ok(())
 }
 
 /// Adds the fault of a line to those of the lines above it.
@@ -101,6 +136,35 @@ fn strike_in_task(
     ensures ok { IfOk result (λ strike. strike ≡ strike_in_task promises.now number node.now fault.now) }
     ensures refused { OnRefused result (λ reason. reason_in_task (shapes_of matrices.now) promises.now node.now fault.now ≡ Some reason) }
 {
+    let local = struck_local(alloc, matrices, promises, node, fault)?;
+    if fault.mask == 0 {
+        return Err(Fault::Refused(Reason::ZeroMask));
+    }
+    Ok(Strike {
+        node: number,
+        attempt: fault.attempt as u32,
+        local,
+        word: fault.word as u32,
+        mask: fault.mask,
+    })
+}
+
+/// The number of the local that a line of this task names, where the task may make the attempt and the local has the word.
+fn struck_local(
+    alloc: Global,
+    matrices: &Matrices,
+    promises: &[PlannedPromise],
+    node: &Node,
+    fault: &FaultLine,
+) -> Result<u32, Fault<Reason>>
+    requires task { node.now.kind ≡ Task }
+    requires lawful { IsLawfulTask (shapes_of matrices.now) promises.now node.now }
+    ensures found { IfOk result (λ local. local_number promises.now fault.now.local node.now ≡ Some local) }
+    ensures unrefused { IfOk result (λ local. word_reason (shapes_of matrices.now) promises.now node.now fault.now ≡ None) }
+    ensures attempt { IfOk result (λ local. fault.now.attempt < 2 ^ 32) }
+    ensures word { IfOk result (λ local. fault.now.word < MAX_PROMISE_WORDS) }
+    ensures refused { OnRefused result (λ reason. word_reason (shapes_of matrices.now) promises.now node.now fault.now ≡ Some reason) }
+{
     if fault.attempt >= u64::from(attempts_of(node)) {
         return Err(Fault::Refused(Reason::Attempt));
     }
@@ -110,16 +174,7 @@ fn strike_in_task(
     if fault.word >= local_len(alloc, matrices, promises, node, local)? {
         return Err(Fault::Refused(Reason::BadWord));
     }
-    if fault.mask == 0 {
-        return Err(Fault::Refused(Reason::ZeroMask));
-    }
-    Ok(Strike {
-        node: number,
-        attempt: fault.attempt as u32,
-        local: local as u32,
-        word: fault.word as u32,
-        mask: fault.mask,
-    })
+    Ok(local as u32)
 }
 
 /// How many words a local has: none where the task has no such local.
@@ -133,7 +188,7 @@ fn local_len(
     requires { IsLawfulTask (shapes_of matrices.now) promises.now node.now }
     ensures len { IfOk result (λ len. len ≡ slice_index (local_lens (shapes_of matrices.now) promises.now node.now) local) }
     ensures short { IfOk result (λ len. len ≤ MAX_PROMISE_WORDS) }
-    ensures there { IfOk result (λ len. 0 < len → local < 48) }
+    ensures there { IfOk result (λ len. 0 < len → local < MAX_AWAITS + MAX_LETS) }
 {
     let lens = local_lens(alloc, matrices, promises, node)?;
     match lens.get(local) {

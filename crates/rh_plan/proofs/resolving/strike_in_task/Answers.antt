@@ -4,11 +4,5 @@ use Rattle.rh_plan.proofs.resolving.strike_in_task.Goals as goal
 pub returns-clause-unrefused : goal.returns-clause-unrefused
 returns-clause-unrefused = search rules
 
-pub returns-in_default-clause-refused : goal.returns-in_default-clause-refused
-returns-in_default-clause-refused = search rules
-
-pub returns-then-branch-clause-refused : goal.returns-then-branch-clause-refused
-returns-then-branch-clause-refused = search rules
-
 pub returns-then-fault-eq0-clause-refused : goal.returns-then-fault-eq0-clause-refused
 returns-then-fault-eq0-clause-refused = search rules

@@ -8,11 +8,10 @@ ghost use Rattle.rh_rules.specs.Lawful.{AreLawful, putter_of};
 use crate::attempt_limit::attempts_of;
 use crate::blaming::blamed;
 use crate::edge::Edge;
-use crate::edges::edges_of;
 use crate::grouping::group_of;
 use crate::outcome::Cause;
 use crate::references::is_shown;
-use crate::tables::{Tables, tables_of};
+use crate::tables::{Tables, edges_and_tables};
 use rh_check::Matrices;
 use rh_rules::{Body, Kind, Node, PlannedCheck, PlannedPromise, Scheme};
 use rh_words::{Name, OutOfMemory};
@@ -56,9 +55,7 @@ impl Plan {
         requires { AreLawful (shapes_of matrices) nodes.items promises.items }
         ensures { IfOk result (λ plan. plan ≡ plan_data nodes.items promises.items (edges_from promises.items 0 nodes.items) matrices) }
     {
-        let edges = edges_of(alloc, &promises, &nodes)?;
-        let count = nodes.as_slice().len();
-        let tables = tables_of(alloc, &promises, &edges, count)?;
+        let (edges, tables) = edges_and_tables(alloc, &promises, &nodes)?;
         Ok(Plan {
             nodes,
             promises,

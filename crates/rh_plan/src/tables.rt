@@ -1,18 +1,19 @@
 //! What a plan keeps in tables, beside its lists.
 
-ghost use Rattle.std.specs.Prelude.{◌≤◌, ◌<◌, ◌^◌, length, map, IfOk};
+ghost use Rattle.std.specs.Prelude.{◌≡◌, ◌≤◌, ◌<◌, ◌^◌, length, map, IfOk};
 ghost use Rattle.rh_words.specs.declared.limits.TheConstants.{MAX_NODES};
 ghost use Rattle.std.specs.List.{AllByRecursion};
 ghost use Rattle.rh_plan.specs.Grouping.{IsGrouping};
 ghost use Rattle.rh_plan.specs.Lawful.{IsForward};
+ghost use Rattle.rh_plan.specs.Plans.{edges_from};
 ghost use Rattle.rh_plan.specs.Tables.{AreTables};
 
 use crate::edge::Edge;
-use crate::edges::{sources_of, targets_of};
+use crate::edges::{edges_of, sources_of, targets_of};
 use crate::grouping::{Groups, grouped};
 use crate::levels::levels_of;
 use crate::references::references_of;
-use rh_rules::PlannedPromise;
+use rh_rules::{Node, PlannedPromise};
 use rh_words::OutOfMemory;
 use std::alloc::Global;
 
@@ -25,8 +26,25 @@ pub struct Tables {
     pub out_of: Groups,
 }
 
+/// The edges of a plan with these promises and nodes, and its tables.
+pub fn edges_and_tables(
+    alloc: Global,
+    promises: &[PlannedPromise],
+    nodes: &[Node],
+) -> Result<(Vec<Edge>, Tables), OutOfMemory>
+    requires small { length nodes.now ≤ MAX_NODES }
+    requires few { length (edges_from promises.now 0 nodes.now) < 2 ^ 32 }
+    requires forward { AllByRecursion (IsForward (length nodes.now)) (edges_from promises.now 0 nodes.now) }
+    ensures edges { IfOk result (λ made. made.0.items ≡ edges_from promises.now 0 nodes.now) }
+    ensures tables { IfOk result (λ made. AreTables promises.now (edges_from promises.now 0 nodes.now) (length nodes.now) made.1) }
+{
+    let edges = edges_of(alloc, promises, nodes)?;
+    let tables = tables_of(alloc, promises, &edges, nodes.len())?;
+    Ok((edges, tables))
+}
+
 /// The tables of a plan with these promises and edges, and with n nodes.
-pub fn tables_of(
+fn tables_of(
     alloc: Global,
     promises: &[PlannedPromise],
     edges: &[Edge],

@@ -1,16 +1,17 @@
 -- What a line uses, by the numbers of the locals.
-use Rattle.std.proofs.Common.{◌≡◌, ℕ, List, [], ◌∷◌, Bool, true, false, ◌||◌, not, Option, Some, None, map, length, cond, refl, ap, ◌∙◌}
+use Rattle.std.proofs.Common.{◌≡◌, ℕ, List, [], ◌∷◌, Bool, true, false, ◌||◌, not, Option, Some, None, map, length, cond, refl, ap, sym, ◌∙◌}
 use Rattle.std.specs.List.{list_any, position_or_len}
-use Rattle.std.specs.Prelude.{is_some, unwrap_or, slice_get, option_and_then, nat_lt}
+use Rattle.std.specs.Prelude.{is_some, option_to_list, unwrap_or, slice_get, option_and_then, nat_lt}
 use Rattle.std.specs.Str.{bytes_eq}
 use Rattle.std.proofs.lemmas.Bool.{false≢true, true≢false}
 use Rattle.rh_task_text.specs.declared.statement.Statement.{Statement}
-use Rattle.rh_rules.specs.Tables.{LocalName, if_any, is_in, place_of, is_local, number_of, promise_at, promise_named, promise_number, is_promise, is_put}
+use Rattle.rh_rules.specs.Tables.{LocalName, local, if_any, is_in, place_of, is_local, number_of, promise_at, promise_named, promise_number, is_promise, is_put}
 use Rattle.rh_rules.specs.declared.node.PlannedPromise.{PlannedPromise}
+use Rattle.rh_rules.specs.declared.shape.Shape.{Shape}
 use Rattle.rh_rules.specs.declared.shape.NamedShape.{NamedShape}
 use Rattle.rh_rules.specs.Facets.{facets}
 use Rattle.rh_rules.specs.Rules.{is_among_first}
-use Rattle.rh_rules.specs.Above.{numbers_used, lens_used}
+use Rattle.rh_rules.specs.Above.{matrix_used, shape_used, numbers_used, lens_used, made_len, local_made}
 use Rattle.rh_tables.specs.declared.matrices.Named.{Named}
 use Rattle.rh_tables.specs.Making.{IsNamed, let_reason, put_reason, let_use_reason, put_use_reason, uses_unknown, uses_dropped, names_no_matrix}
 
@@ -81,3 +82,16 @@ let_by_use ms ls drops x s m numbers lens fresh known named numbers_is lens_is =
 pub put_by_use : (p : PlannedPromise) (ms : List NamedShape) (ls : List LocalName) (drops : List ℕ) (s : Statement) (m : Named) (numbers lens : List ℕ) → uses_unknown ms ls s ≡ false → IsNamed ms s m → numbers ≡ numbers_used ls s → lens ≡ lens_used ls s
     → put_use_reason p m numbers lens drops s ≡ put_reason p ms ls drops s
 put_by_use p ms ls drops s m numbers lens known named numbers_is lens_is = rw (numbers_is, lens_is, named.shape, known, uses_dropped_numbers ms ls drops s known) refl
+
+-- the local that a `let` makes, by what is looked up
+pub local_by_use : (ms : List NamedShape) (ls : List LocalName) (x : List ℕ) (s : Statement) (m : Named) (lens : List ℕ) (len : ℕ) (made : LocalName) → (facets s).made ≡ Some x → IsNamed ms s m → lens ≡ lens_used ls s → len ≡ (facets s).len m.shape lens → made ≡ local x len
+    → made ∷ [] ≡ local_made ms ls s
+local_by_use ms ls x s m lens len made makes named lens_is len_is made_is =
+    ap (λ (t : LocalName). t ∷ []) (made_is ∙ ap (local x) (len_is ∙ ap (λ (h : Shape). (facets s).len h lens) named.shape ∙ ap (λ (l : List ℕ). (facets s).len (shape_used ms s) l) lens_is))
+    ∙ sym (ap (λ (o : Option (List ℕ)). map (λ y. local y (made_len ms ls s)) (option_to_list o)) makes)
+
+-- and its step, where it has one
+pub step_by_use : (ms : List NamedShape) (ls : List LocalName) (s : Statement) (m : Named) (numbers : List ℕ) → IsNamed ms s m → numbers ≡ numbers_used ls s → (facets s).step m.number numbers ≡ (facets s).step (matrix_used ms s) (numbers_used ls s)
+step_by_use ms ls s m numbers named numbers_is =
+    ap (λ (i : ℕ). (facets s).step i numbers) named.number
+    ∙ ap (λ (l : List ℕ). (facets s).step (matrix_used ms s) l) numbers_is

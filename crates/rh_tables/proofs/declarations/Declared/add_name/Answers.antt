@@ -2,8 +2,13 @@ use Rattle.std.proofs.Common.{◌≡◌, ◌∙◌, ap, sym, true, false}
 use Rattle.rh_words.specs.Naming.{is_name}
 use Rattle.rh_rules.specs.Tables.{is_among}
 use Rattle.rh_tables.specs.Declarations.{Declarations}
-use Rattle.rh_tables.proofs.Declaring.{name_found}
+use Rattle.rh_tables.proofs.Declaring.{name_found, same_found}
 use Rattle.rh_tables.proofs.declarations.Declared.add_name.Goals as goal
+
+pub invariant_of-self : goal.invariant_of-self
+invariant_of-self c =
+    let e = c.in_err-note.ensures in
+    rw e.names_kept (same_found c.self.inside.known c.note.new.known c.self.inside.names.items c.self.inside.promises.items c.self.inside.words c.self.inside.shown e.known_kept c.self.invariant)
 
 pub invariant_of-self-2 : goal.invariant_of-self-2
 invariant_of-self-2 c =

@@ -307,7 +307,7 @@ impl Planner {
         requires closable { IsClosable self.old.declared.promises self.old.blocks }
         ensures { IfOk result (λ answer. Judges self.old text.End self.new answer) }
     {
-        if self.task.lacks_corrector() {
+        if self.task.lacks_product_check() {
             return Ok(Some(Reason::Scheme));
         }
         let block = self.blocks.pop();

@@ -3,7 +3,7 @@ pub mod Declaring
 pub mod Using
 pub mod Reading
 pub mod Cells
-pub mod Correctors
+pub mod ProductChecks
 pub mod Stepping
 pub mod SoundTasks
 pub mod Members

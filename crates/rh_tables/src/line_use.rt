@@ -249,7 +249,7 @@ impl LineUse {
     {
         if !suits(statement, self.matrix.shape, len, &self.lens) {
             Some(Reason::Length)
-        } else if !may_check(task.scheme) || asks_product(statement) && task.has_corrector() {
+        } else if !may_check(task.scheme) || asks_product(statement) && task.has_product_check() {
             Some(Reason::Scheme)
         } else if self.is_any_dropped(&task.drops) {
             Some(Reason::Dropped)

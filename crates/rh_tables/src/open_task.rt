@@ -98,16 +98,16 @@ impl OpenTask {
     }
 
     /// Whether it is a task with correction that has a check of a product.
-    #[tactic(auto, using(crate::proofs::Correctors::has_planned_product))]
-    pub fn has_corrector(&self) -> bool
+    #[tactic(auto, using(crate::proofs::ProductChecks::has_planned_product))]
+    pub fn has_product_check(&self) -> bool
         ensures { result ≡ (is_corrected self.now.scheme && has_product self.now.checks) }
     {
         is_corrected(self.scheme) && has_product(self.checks.as_slice())
     }
 
     /// Whether it is a task with correction that has no check of a product.
-    #[tactic(auto, using(crate::proofs::Correctors::has_planned_product))]
-    pub fn lacks_corrector(&self) -> bool
+    #[tactic(auto, using(crate::proofs::ProductChecks::has_planned_product))]
+    pub fn lacks_product_check(&self) -> bool
         ensures { result ≡ (is_corrected self.now.scheme && not (has_product self.now.checks)) }
     {
         is_corrected(self.scheme) && !has_product(self.checks.as_slice())

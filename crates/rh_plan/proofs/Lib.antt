@@ -21,6 +21,7 @@ pub mod Values
 pub mod Sums
 pub mod Followed
 pub mod Tried
+pub mod OwnCounts
 pub mod PlannedTexts
 pub mod SaidParts
 pub mod SaidNames

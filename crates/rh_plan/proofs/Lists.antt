@@ -1,8 +1,9 @@
 -- Lists filtered, searched and read by place.
-use Rattle.std.proofs.Common.{◌≡◌, ℕ, zero, suc, ◌+◌, ◌<◌, ◌≤◌, List, [], ◌∷◌, ◌++◌, Bool, true, false, cond, Some, length, map, take, refl, arith, ap, sym, ◌∙◌, inl, inr, subst}
+use Rattle.std.proofs.Common.{◌≡◌, ℕ, zero, suc, ◌+◌, ◌<◌, ◌≤◌, List, [], ◌∷◌, ◌++◌, Bool, true, false, cond, Some, length, map, take, drop, refl, arith, ap, sym, ◌∙◌, inl, inr, subst}
 use Rattle.std.proofs.lemmas.Option.{none-some, same_Some}
 use Rattle.std.proofs.lemmas.Bool.{cases_Bool, or_parts, cond-true, cond-false}
 use Rattle.std.specs.List.{AllByRecursion, filter, find, list_any, slice_get, range_with_len}
+use Rattle.std.proofs.Math.Seq.{take-append_seam}
 
 pub filter_none : {X : Type 0} (p : X → Bool) (xs : List X) → list_any p xs ≡ false → filter p xs ≡ []
 filter_none p [] none = refl
@@ -114,3 +115,7 @@ find_there p (y ∷ xs) (suc i) x at passes = elim (cases_Bool (p y)) [
   | inl y1 ↦ (y, cond-true (p y) (Some y) (find p xs) y1, y1)
   | inr n1 ↦ let (z, found, good) = find_there p xs i x at passes in (z, cond-false (p y) (Some y) (find p xs) n1 ∙ found, good)
 ]
+
+-- a vector whose whole slice is written
+pub written_whole : {X : Type 0} (new old : List X) (n : ℕ) → n ≡ length new → take n (new ++ drop (length new) old) ≡ new
+written_whole new old n whole = ap (λ (k : ℕ). take k (new ++ drop (length new) old)) whole ∙ take-append_seam new (drop (length new) old)

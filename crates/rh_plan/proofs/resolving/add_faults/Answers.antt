@@ -1,5 +1,4 @@
-use Rattle.std.proofs.Common.{◌≡◌, ℕ, List, ap, subst, arith, length}
-use Rattle.rh_injector.specs.declared.faults.Strike.{Strike}
+use Rattle.std.proofs.Common.{◌≡◌, ℕ, ap, subst, arith, length}
 use Rattle.rh_plan.specs.FaultTables.{AreFaultsBelow}
 use Rattle.rh_plan.proofs.ResolvedFaults.{line_there, few_below, count_below, refused_line, added_at}
 use Rattle.rh_plan.proofs.resolving.add_faults.Goals as goal

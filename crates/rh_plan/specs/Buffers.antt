@@ -1,5 +1,5 @@
 -- The locals of an attempt of a task, and what it puts and drops.
-use Rattle.std.specs.Prelude.{ℕ, ◌≡◌, ◌+◌, ◌==◌, ◌++◌, List, [], ◌∷◌, Option, Some, None, Bool, true, not, cond, length, map, slice_get, slice_index, slice_index_or, if◌then◌else◌}
+use Rattle.std.specs.Prelude.{ℕ, ◌≡◌, ◌+◌, ◌==◌, ◌++◌, List, [], ◌∷◌, Option, Some, None, Bool, true, not, cond, length, map, slice_get, slice_index, if◌then◌else◌}
 use Rattle.std.specs.List.{AllByRecursion, find}
 use Rattle.std.specs.Option.{option_map}
 use Rattle.rh_words.specs.Kernels.{lit_value, gen_value, add_value, sub_value, mul_value, scale_value, shift_value, cut_value, join_value, sum_value, count_value}

@@ -1,5 +1,5 @@
 -- What the lines of a fault text name in a plan, and why a line is refused.
-use Rattle.std.specs.Prelude.{ℕ, ◌≡◌, ◌<◌, ◌==◌, ◌&&◌, List, Bool, true, false, Option, Some, None, is_none, map, take, cond, nat_le, unwrap_or, position, slice_get, slice_index, option_and_then, IsPermutation}
+use Rattle.std.specs.Prelude.{ℕ, ◌≡◌, ◌<◌, ◌==◌, ◌&&◌, List, Bool, Option, Some, None, is_none, map, take, cond, nat_le, unwrap_or, position, slice_get, slice_index, option_and_then, IsPermutation}
 use Rattle.std.specs.List.{list_any}
 use Rattle.std.specs.Option.{option_map}
 use Rattle.std.specs.Str.{bytes_eq}

@@ -26,10 +26,24 @@ pub(crate) fn fill_buffer(
 {
     let mut locals = finished;
     let mut buffer = Buffer::new(alloc);
-    for (at, step) in steps.iter().enumerate() {
-        do_step(alloc, step, &steps[at + 1..], &mut locals, &mut buffer)?;
-    }
+    do_steps(alloc, steps, &mut locals, &mut buffer)?;
     Ok(buffer)
+}
+
+/// Puts and drops what the steps do, in body order. The locals' words are given away as no later step reads them.
+fn do_steps(
+    alloc: Global,
+    steps: &[Step],
+    locals: &mut Vec<Local<'_>>,
+    buffer: &mut Buffer,
+) -> Result<(), OutOfMemory>
+    requires { AllByRecursion (ReadsLocals (map length locals.old.items)) steps.now }
+    ensures { OnOk result (buffer.new ≡ buffer_data (buffer.old.puts ++ puts_of locals.old.items steps.now) (buffer.old.drops ++ drops_of steps.now)) }
+{
+    for (at, step) in steps.iter().enumerate() {
+        do_step(alloc, step, &steps[at + 1..], locals, buffer)?;
+    }
+    Ok(())
 }
 
 /// Puts or drops, where the step does. Of the locals, those that the later steps read stay as they are.

@@ -1,20 +1,15 @@
 -- An attempt of a task of a lawful plan.
-use Rattle.std.proofs.Common.{◌≡◌, ℕ, List, Some, length, map, ap, sym, ◌∙◌, subst}
-use Rattle.std.proofs.lemmas.Option.{same_Some}
-use Rattle.std.specs.List.{slice_get}
+use Rattle.std.proofs.Common.{◌≡◌, ℕ, List, length, map, ap, sym, ◌∙◌, subst}
 use Rattle.rh_injector.specs.declared.faults.Strike.{Strike}
 use Rattle.rh_injector.specs.Faults.{faults_in}
 use Rattle.rh_rules.specs.declared.body.Step.{Step}
-use Rattle.rh_rules.specs.declared.node.Node.{Node}
-use Rattle.rh_rules.specs.declared.node.Kind.TheVariants.{Task}
 use Rattle.rh_rules.specs.Bodies.{AreSoundSteps, drops_of}
 use Rattle.rh_plan.specs.Plans.{PlanData, OfNode, shapes_in}
 use Rattle.rh_rules.specs.Lawful.{promise_lens}
 use Rattle.rh_plan.specs.Lawful.{IsLawfulPlan}
-use Rattle.rh_rules.specs.Lawful.{IsLawfulKind, IsLawfulTask}
+use Rattle.rh_rules.specs.Lawful.{IsLawfulKind}
 use Rattle.rh_plan.specs.Asked.{IsTaskOn}
 use Rattle.rh_plan.specs.Buffers.{BufferData, buffer_data, buffer_of, copies_from, locals_from, puts_of}
-use Rattle.rh_plan.specs.Attempts.{attempt_of}
 use Rattle.rh_attempt.specs.Attempting.{IsAttemptAt}
 use Rattle.rh_attempt.proofs.Locals.{sound_copies}
 

@@ -1,9 +1,9 @@
 -- The faults of a local, one after another.
-use Rattle.std.proofs.Common.{◌≡◌, ◌≢◌, ℕ, zero, suc, ◌+◌, ◌<◌, ◌≤◌, ◌==◌, ◌&&◌, ◌||◌, List, [], ◌∷◌, ◌++◌, Bool, true, false, cond, Option, Some, None, length, take, drop, get_or, set, slice_index, refl, arith, ap, sym, ◌∙◌, subst, inl, inr, append_assoc}
+use Rattle.std.proofs.Common.{◌≡◌, ◌≢◌, ℕ, zero, suc, ◌+◌, ◌<◌, ◌==◌, ◌&&◌, ◌||◌, List, [], ◌∷◌, ◌++◌, Bool, true, false, cond, Option, Some, None, length, take, drop, get_or, slice_index, refl, arith, ap, sym, ◌∙◌, subst, inl, inr}
 use Rattle.std.proofs.lemmas.Bool.{false≢true, cases_Bool, cases_lt, and_parts, and_from, or_parts, eqb-true, eq-eqb, ne_eqb, lt-ltb, le-ltb, cond-true, cond-false}
 use Rattle.std.proofs.lemmas.List.{take_more, drop_more, take-append-drop}
 use Rattle.std.specs.Prelude.{nat_lt, bit_xor}
-use Rattle.std.specs.List.{AllByRecursion, find, list_any, slice_set}
+use Rattle.std.specs.List.{AllByRecursion, find, slice_set}
 use Rattle.std.specs.Option.{option_map, unwrap_or}
 use Rattle.rh_injector.specs.declared.faults.Strike.{Strike}
 use Rattle.rh_injector.specs.Faults.{below_or, is_before, comes_before, faults_in, IsAscending, IsFaultList}

@@ -1,16 +1,16 @@
 -- What an attempt puts, step by step, while locals give their words away.
-use Rattle.std.proofs.Common.{◌≡◌, ◌≢◌, ℕ, zero, suc, ◌+◌, ◌-◌, ◌<◌, ◌≤◌, ◌==◌, ◌||◌, List, [], ◌∷◌, ◌++◌, Bool, true, false, not, cond, Option, Some, None, length, map, drop, get_or, set, slice_index, refl, arith, ap, sym, ◌∙◌, subst, inl, inr, append_assoc, get_or-set_other}
-use Rattle.std.proofs.lemmas.Bool.{false≢true, cases_Bool, cases_lt, lt-ltb, le-ltb, or_from, or_left, or_right, eqb-true, eq-eqb, cond-true, cond-false}
-use Rattle.std.proofs.lemmas.List.{length-set, length-map, length-drop, drop_more, take_all}
+use Rattle.std.proofs.Common.{◌≡◌, ℕ, zero, suc, ◌+◌, ◌-◌, ◌<◌, ◌≤◌, ◌==◌, List, [], ◌∷◌, ◌++◌, Bool, true, false, not, cond, Option, Some, None, length, map, drop, set, slice_index, refl, arith, ap, sym, ◌∙◌, subst, inl, inr, append_assoc, get_or-set_other}
+use Rattle.std.proofs.lemmas.Bool.{false≢true, cases_Bool, cases_lt, lt-ltb, le-ltb, or_left, or_right, eq-eqb, cond-true, cond-false}
+use Rattle.std.proofs.lemmas.List.{length-set, length-map, length-drop, take_all}
 use Rattle.std.proofs.lemmas.Option.{none-some, same_Some}
 use Rattle.std.specs.Prelude.{nat_lt, Result, Ok, Err, OnOk}
-use Rattle.std.specs.List.{AllByRecursion, position, position_or_len, list_any, slice_set, slice_range}
+use Rattle.std.specs.List.{AllByRecursion, position, position_or_len, slice_set, slice_range}
 use Rattle.rh_rules.specs.declared.body.Step.{Step}
 use Rattle.rh_rules.specs.declared.body.Step.TheVariants.{Lit, Gen, Add, Sub, Mul, Scale, Shift, Cut, Join, Sum, Count, Stencil1, Stencil2, Product, Put, DropAwait}
 use Rattle.rh_rules.specs.Bodies.{IsSoundWhen, drop_at, drops_of}
 use Rattle.rh_plan.specs.declared.made_put.MadePut.{MadePut}
 use Rattle.rh_check.specs.Checks.{words_at}
-use Rattle.rh_plan.specs.Buffers.{BufferData, buffer_data, is_made, puts_at, puts_of, made_put, puts_with}
+use Rattle.rh_plan.specs.Buffers.{BufferData, is_made, puts_at, puts_of, made_put, puts_with}
 use Rattle.rh_attempt.specs.Attempting.{ReadsLocals, is_local, reads_local, is_read, AreAsBefore, with_step}
 
 -- one local less, which no later put reads

@@ -1,5 +1,5 @@
 -- What an attempt of a task of a plan answers.
-use Rattle.std.specs.Prelude.{ℕ, ◌≡◌, ◌<◌, ◌==◌, ◌||◌, List, ◌++◌, ⊤, Bool, true, false, Option, Some, None, length, map, slice_get}
+use Rattle.std.specs.Prelude.{ℕ, ◌≡◌, ◌<◌, ◌==◌, ◌||◌, List, ◌++◌, ⊤, Bool, true, false, Option, Some, None, length, slice_get}
 use Rattle.std.specs.List.{list_any}
 use Rattle.rh_injector.specs.declared.faults.Strike.{Strike}
 use Rattle.rh_rules.specs.declared.body.Step.{Step}

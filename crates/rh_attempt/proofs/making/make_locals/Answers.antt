@@ -1,4 +1,4 @@
-use Rattle.std.proofs.Common.{◌+◌, ◌∙◌, ◌∷◌, List, ap, sym, drop}
+use Rattle.std.proofs.Common.{◌+◌, ◌∙◌, ◌∷◌, ap, sym, drop}
 use Rattle.std.proofs.lemmas.List.{drop_more}
 use Rattle.rh_rules.specs.declared.body.Step.{Step}
 use Rattle.rh_plan.specs.Buffers.{locals_from}

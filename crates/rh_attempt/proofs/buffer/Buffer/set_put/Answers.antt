@@ -1,4 +1,4 @@
-use Rattle.std.proofs.Common.{sym, ◌∙◌, ap, ◌==◌, ◌≡◌, List, ℕ, Option, Some, None, subst}
+use Rattle.std.proofs.Common.{sym, ◌∙◌, ap, ◌==◌, ◌≡◌, List, Some, None}
 use Rattle.std.specs.List.{position}
 use Rattle.rh_plan.specs.declared.made_put.MadePut.{MadePut}
 use Rattle.rh_plan.specs.Buffers.{BufferData, buffer_data, puts_with}

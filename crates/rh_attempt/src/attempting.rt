@@ -1,6 +1,6 @@
 //! One attempt of a task under its faults.
 
-ghost use Rattle.std.specs.Prelude.{◌≡◌, IfOk};
+ghost use Rattle.std.specs.Prelude.{IfOk};
 ghost use Rattle.rh_plan.specs.Asked.{IsTaskOn};
 ghost use Rattle.rh_attempt.specs.Attempting.{IsAttemptAt};
 

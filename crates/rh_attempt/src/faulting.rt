@@ -1,7 +1,6 @@
 //! What faults do to the words of a local.
 
 ghost use Rattle.std.specs.Prelude.{◌≡◌, ◌==◌, IfOk};
-ghost use Rattle.std.specs.List.{list_any};
 ghost use Rattle.rh_plan.specs.Faulted.{faulted};
 ghost use Rattle.rh_attempt.specs.Faulting.{AreApart, with_fault, names_local};
 

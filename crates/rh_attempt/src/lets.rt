@@ -1,6 +1,6 @@
 //! The results of the `let`s of an attempt, on the locals before them.
 
-ghost use Rattle.std.specs.Prelude.{◌≡◌, ◌≤◌, ◌<◌, ◌+◌, ◌∷◌, [], Some, true, IfOk, IsOkAnd, IsSomeAnd, length, map, slice_get, slice_index};
+ghost use Rattle.std.specs.Prelude.{◌≡◌, ◌≤◌, ◌<◌, ◌+◌, ◌∷◌, [], Some, true, IfOk, IsOkAnd, length, map, slice_get, slice_index};
 ghost use Rattle.rh_words.specs.declared.limits.TheConstants.{MAX_SHIFT};
 ghost use Rattle.rh_words.specs.Kernels.{add_value, sub_value, mul_value, scale_value, shift_value, cut_value, join_value, sum_value, count_value};
 ghost use Rattle.rh_stencil.specs.Steps.{step1_value};

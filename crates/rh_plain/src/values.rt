@@ -3,7 +3,7 @@
 ghost use Rattle.std.specs.Prelude.{◌≡◌, ◌<◌, ◌∷◌, [], None, IfOk, length, unwrap_or, replicate, slice_set};
 ghost use Rattle.std.specs.List.{AllByRecursion};
 ghost use Rattle.rh_plan.specs.Buffers.{words_put};
-ghost use Rattle.rh_plain.specs.Values.{has_words, words_at, kept_or, AreGiven};
+ghost use Rattle.rh_plain.specs.Values.{has_words, words_at, AreGiven};
 
 use rh_plan::MadePut;
 use rh_words::{OutOfMemory, Words};

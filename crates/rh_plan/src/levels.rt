@@ -1,6 +1,6 @@
 //! The levels of the nodes.
 
-ghost use Rattle.std.specs.Prelude.{◌≡◌, ◌≤◌, ◌<◌, ◌+◌, ◌^◌, ℕ, length, map, slice_index, slice_range, IfOk};
+ghost use Rattle.std.specs.Prelude.{◌≡◌, ◌≤◌, ◌<◌, ◌+◌, ◌^◌, ℕ, length, map, slice_index, IfOk};
 ghost use Rattle.rh_plan.specs.Derived.{level_after, levels_by};
 ghost use Rattle.rh_plan.specs.Grouping.{IsGrouping};
 

@@ -1,6 +1,6 @@
 //! A plan.
 
-ghost use Rattle.std.specs.Prelude.{◌≡◌, ◌<◌, ℕ, Some, IfOk, length, slice_get};
+ghost use Rattle.std.specs.Prelude.{◌≡◌, ◌<◌, Some, IfOk, length, slice_get};
 ghost use Rattle.rh_rules.specs.Kept.{planned_checks};
 ghost use Rattle.rh_rules.specs.Bodies.{shapes_of};
 ghost use Rattle.rh_rules.specs.Lawful.{AreLawful, putter_of};

@@ -1,9 +1,9 @@
 //! The edges of a plan, made from its nodes and promises.
 
-ghost use Rattle.std.specs.Prelude.{◌≡◌, ◌++◌, ◌≤◌, length, map, IfOk, OnOk};
+ghost use Rattle.std.specs.Prelude.{◌≡◌, ◌++◌, ◌≤◌, length, map, option_to_list, IfOk, OnOk};
 ghost use Rattle.rh_words.specs.declared.limits.TheConstants.{MAX_NODES};
 ghost use Rattle.rh_rules.specs.Lawful.{putter_of};
-ghost use Rattle.rh_plan.specs.Plans.{await_edge, order_edge, edges_into, edges_from};
+ghost use Rattle.rh_plan.specs.Plans.{await_edge, order_edge, start_edges, edges_into, edges_from};
 
 use crate::edge::Edge;
 use rh_rules::{Kind, Node, PlannedPromise};
@@ -38,7 +38,6 @@ fn edge_count(nodes: &[Node]) -> usize {
 }
 
 /// Adds the edges into the node `to`.
-#[tactic(auto, using(std::proofs::Common::append_assoc))]
 fn push_edges(
     edges: &mut Vec<Edge>,
     promises: &[PlannedPromise],
@@ -49,18 +48,35 @@ fn push_edges(
 {
     match node.kind {
         Kind::Scope => push_orders(edges, to, node.members.as_slice()),
-        Kind::Task | Kind::Group => {
-            push_awaits(edges, promises, to, node.awaits.as_slice())?;
-            match node.group {
-                Some(group) => push_orders(edges, to, &[group]),
-                None => Ok(()),
-            }
-        }
+        Kind::Task | Kind::Group => push_start_edges(edges, promises, to, node),
+    }
+}
+
+/// Adds the edges into the node `to`, which is a task or a group.
+#[tactic(auto, using(std::proofs::Common::append_assoc))]
+fn push_start_edges(
+    edges: &mut Vec<Edge>,
+    promises: &[PlannedPromise],
+    to: u32,
+    node: &Node,
+) -> Result<(), OutOfMemory>
+    ensures { OnOk result (edges.new.items ≡ edges.old.items ++ start_edges promises.now to node.now) }
+{
+    push_awaits(edges, promises, to, node.awaits.as_slice())?;
+    push_group(edges, to, node.group)
+}
+
+/// Adds the edge from the innermost group in whose lines the node `to` stands, where there is one.
+fn push_group(edges: &mut Vec<Edge>, to: u32, group: Option<u32>) -> Result<(), OutOfMemory>
+    ensures { OnOk result (edges.new.items ≡ edges.old.items ++ map (order_edge to) (option_to_list group)) }
+{
+    match group {
+        Some(group) => push_orders(edges, to, &[group]),
+        None => Ok(()),
     }
 }
 
 /// Adds the edges on which the node `to` takes the promises that it awaits.
-#[tactic(auto, using(std::proofs::Common::append_assoc))]
 fn push_awaits(
     edges: &mut Vec<Edge>,
     promises: &[PlannedPromise],

@@ -42,6 +42,25 @@ pub fn replicate<I: Inputs, C: Checks, G: Gate>(
     ensures { IfOk result (λ r. JudgesAs plan.now faults.now node (I.lists inputs.now) r) }
 {
     let first = gated(alloc, worker, plan, node, 0, inputs, faults, gate)?;
+    with_second(alloc, worker, plan, node, inputs, faults, gate, first)
+}
+
+/// Makes the second attempt of a replicated task. Where it differs from the first, a third is made.
+fn with_second<I: Inputs, G: Gate>(
+    alloc: Global,
+    worker: u32,
+    plan: &Plan,
+    node: u32,
+    inputs: &I,
+    faults: &Faults,
+    gate: &G,
+    first: Buffer,
+) -> Result<NodeResult, OutOfMemory>
+    requires task { IsTaskOn plan.now node (I.lists inputs.now) }
+    requires scheme { HasScheme plan.now node Replicate }
+    requires made { IsAttemptAt plan.now faults.now node (I.lists inputs.now) 0 first }
+    ensures { IfOk result (λ r. JudgesAs plan.now faults.now node (I.lists inputs.now) r) }
+{
     let second = gated(alloc, worker, plan, node, 1, inputs, faults, gate)?;
     if first.same(&second) {
         return first_and_second(alloc, first);

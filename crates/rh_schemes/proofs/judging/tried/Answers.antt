@@ -2,6 +2,10 @@ use Rattle.std.proofs.Common.{ℕ, Option, subst}
 use Rattle.rh_schemes.specs.Checking.{IsFirstFailingAt}
 use Rattle.rh_schemes.proofs.judging.tried.Goals as goal
 
+-- the checks are asked on the awaited words as they are
+pub failing-requires-clause-task : goal.failing-requires-clause-task
+failing-requires-clause-task g c = c.requires.task
+
 pub returns-in-None : goal.returns-in-None
 returns-in-None g c = (
   c.in_ok-buffer.ensures.made,

@@ -3,6 +3,7 @@ pub mod Puts
 pub mod CheckLines
 pub mod Checking
 pub mod Closing
+pub mod Declaring
 pub mod Tasks
 pub mod Refusing
 pub mod Wholes

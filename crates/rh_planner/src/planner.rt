@@ -95,7 +95,6 @@ impl Planner {
         }
     }
 
-    #[tactic(auto, unfolding(rh_rules::specs::Facets::facets))]
     fn promise(&mut self, name: Name, len: u64, temp: bool) -> Result<Option<Reason>, OutOfMemory>
         requires { len ≤ MAX_PROMISE_WORDS }
         ensures { IfOk result (λ answer. Judges self.old (text.Promise name len temp) self.new answer) }
@@ -122,7 +121,6 @@ impl Planner {
         Ok(None)
     }
 
-    #[tactic(auto, unfolding(rh_rules::specs::Facets::facets))]
     fn make(
         &mut self,
         alloc: Global,
@@ -139,7 +137,6 @@ impl Planner {
     }
 
     /// Opens a scope, whose own promise has three words.
-    #[tactic(auto, unfolding(rh_rules::specs::Facets::facets))]
     fn finish(&mut self, alloc: Global, name: Name) -> Result<Option<Reason>, OutOfMemory>
         requires { HasRoom self.old }
         ensures { IfOk result (λ answer. Judges self.old (text.Finish name) self.new answer) }

@@ -10,6 +10,7 @@ use Rattle.rh_plain.specs.Values.{AreGiven}
 use Rattle.rh_plain.specs.Drawing.{Draws, listed_events}
 use Rattle.rh_plain.specs.Holding.{KeepsWords}
 use Rattle.rh_plain.specs.Listing.{HasLists}
+use Rattle.rh_plain.specs.NodeLists.{NodeLists}
 use Rattle.rh_plain.specs.Runs.{Progress, made_by}
 
 -- how a node ended that has this result, where `has` says which promises have words
@@ -17,6 +18,13 @@ pub record IsEndingOf (plan : PlanData) (v : ℕ) (has : ℕ → Bool) (r : code
   pub verdict : ending.verdict ≡ r.verdict
   pub trials : ending.trials ≡ r.trials
   pub lists : OfNode plan v (λ node. HasLists has node (result_data r) ending.lists)
+  pub puts : OfNode plan v (λ node. ending.puts.items ≡ made_by node.puts r.verdict r.accepted)
+
+-- how a node ended that has this result and these lists
+pub record IsEndingWith (plan : PlanData) (v : ℕ) (r : code.NodeResult) (listed : NodeLists) (ending : Ending) : Type 0 where
+  pub verdict : ending.verdict ≡ r.verdict
+  pub trials : ending.trials ≡ r.trials
+  pub lists : ending.lists ≡ listed
   pub puts : OfNode plan v (λ node. ending.puts.items ≡ made_by node.puts r.verdict r.accepted)
 
 -- the ending speaks of promises of the plan, and of few attempts

@@ -11,7 +11,7 @@ ghost use Rattle.rh_journal.specs.ShownWords.{IsAscending};
 ghost use Rattle.rh_plain.specs.Drawing.{Drawn, Draws, IsDrawing, first_events, listed_events};
 ghost use Rattle.rh_plain.specs.Holding.{KeepsWords};
 ghost use Rattle.rh_plain.specs.Values.{has_words};
-ghost use Rattle.rh_plain.specs.Recording.{FitsPlan, HasTold, IsEndingOf};
+ghost use Rattle.rh_plain.specs.Recording.{FitsPlan, HasTold, IsEndingOf, IsEndingWith};
 ghost use Rattle.rh_plain.specs.Runs.{AnswersNode, IsSoFar};
 
 use crate::history::History;
@@ -159,6 +159,20 @@ fn ending_of(
     ensures { IfOk result (IsEndingOf plan.now node (has_words values.now) ended) }
 {
     let lists = lists_of(alloc, plan, node, &ended, values)?;
+    with_lists(alloc, plan, node, ended, lists)
+}
+
+/// How a node ended that has this result and these lists. Its words are moved.
+fn with_lists(
+    alloc: Global,
+    plan: &Plan,
+    node: u32,
+    ended: NodeResult,
+    lists: Lists,
+) -> Result<Ending, OutOfMemory>
+    requires { node < length plan.now.nodes }
+    ensures { IfOk result (IsEndingWith plan.now node ended lists) }
+{
     let NodeResult {
         verdict,
         trials,

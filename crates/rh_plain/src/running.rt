@@ -45,11 +45,29 @@ pub fn run_plain<C: Checks, G: Gate>(
     ensures tells { IfOk result (λ outcome. Tells (run_of plan.now faults.now) outcome.journal outcome.shown) }
 {
     one_thread_tells();
+    let _known = plan.nodes();
     let mut progress = Progress::new(alloc, plan)?;
-    for node in 0..plan.nodes() {
-        run_next(alloc, plan, node, faults, checks, gate, &mut progress)?;
-    }
+    run_all(alloc, plan, faults, checks, gate, &mut progress)?;
     progress.into_outcome(alloc, plan, faults)
+}
+
+/// Runs all nodes, one after another.
+fn run_all<C: Checks, G: Gate>(
+    alloc: Global,
+    plan: &Plan,
+    faults: &Faults,
+    checks: &C,
+    gate: &G,
+    progress: &mut Progress,
+) -> Result<(), OutOfMemory>
+    requires below { IsSoFar plan.now faults.now 0 progress.old }
+    requires checks { AreChecksOf plan.now (C.specs checks.now) }
+    ensures { OnOk result (IsSoFar plan.now faults.now (length plan.now.nodes) progress.new) }
+{
+    for node in 0..plan.nodes() {
+        run_next(alloc, plan, node, faults, checks, gate, progress)?;
+    }
+    Ok(())
 }
 
 /// Runs the next node.

@@ -3,7 +3,7 @@
 use crate::plan::planned;
 use rh_check::Spec;
 use rh_plan::{Cause, Plan};
-use rh_rules::{Kind, Scheme, Step};
+use rh_rules::{Kind, PlannedCheck, Scheme, Step};
 use rh_sparse::{Cell, Matrix};
 use std::alloc::Global;
 
@@ -197,15 +197,30 @@ const SCOPE_AND_GROUP_PROMISES: &[PromiseRow<'static>] = &[
     (b"f", 3, Some(3), false, 2),
 ];
 
+/// Whether a plan has these nodes, edges, links and promises.
+fn has(
+    plan: &Plan,
+    nodes: &[NodeRow],
+    edges: &[EdgeRow],
+    links: &[LinkRow],
+    promises: &[PromiseRow],
+) -> bool {
+    are_nodes(plan, nodes)
+        && are_edges(plan, edges)
+        && are_linked(plan, links)
+        && are_promises(plan, promises)
+}
+
 /// Whether the scope and the group are planned so.
 fn are_scope_and_group_planned(alloc: Global) -> bool {
     match planned(alloc, SCOPE_AND_GROUP) {
-        Some(plan) => {
-            are_nodes(&plan, SCOPE_AND_GROUP_NODES)
-                && are_edges(&plan, SCOPE_AND_GROUP_EDGES)
-                && are_linked(&plan, SCOPE_AND_GROUP_LINKS)
-                && are_promises(&plan, SCOPE_AND_GROUP_PROMISES)
-        }
+        Some(plan) => has(
+            &plan,
+            SCOPE_AND_GROUP_NODES,
+            SCOPE_AND_GROUP_EDGES,
+            SCOPE_AND_GROUP_LINKS,
+            SCOPE_AND_GROUP_PROMISES,
+        ),
         None => false,
     }
 }
@@ -281,11 +296,13 @@ fn blames_the_innermost_group(plan: &Plan) -> bool {
 fn are_nested_planned(alloc: Global) -> bool {
     match planned(alloc, NESTED) {
         Some(plan) => {
-            are_nodes(&plan, NESTED_NODES)
-                && are_edges(&plan, NESTED_EDGES)
-                && are_linked(&plan, NESTED_LINKS)
-                && are_promises(&plan, NESTED_PROMISES)
-                && blames_the_innermost_group(&plan)
+            has(
+                &plan,
+                NESTED_NODES,
+                NESTED_EDGES,
+                NESTED_LINKS,
+                NESTED_PROMISES,
+            ) && blames_the_innermost_group(&plan)
         }
         None => false,
     }
@@ -360,27 +377,34 @@ fn has_matrices(plan: &Plan) -> bool {
         && are_rows(b, &[&[(0, 1), (2, 1)], &[(1, 6)]])
 }
 
-/// Whether a node is a task with correction whose first step is the product of this matrix and this local, and whose first check
-/// is that of this product on the promise.
-fn is_corrected(plan: &Plan, node: u32, product: (u32, u32), promise: u32, checks: usize) -> bool {
-    if node >= plan.nodes() {
-        return false;
+/// Whether the first of the steps is the product of this matrix and this local.
+fn begin_with_product(steps: &[Step], product: (u32, u32)) -> bool {
+    match steps.first() {
+        Some(Step::Product { matrix, v }) => (*matrix, *v) == product,
+        _ => false,
     }
-    let (Some(check), Some(Step::Product { matrix, v })) = (
-        plan.checks_of(node).first(),
-        plan.body(node).steps().first(),
-    ) else {
+}
+
+/// Whether the first of the checks is that of this product on the promise.
+fn check_product(checks: &[PlannedCheck], product: (u32, u32), promise: u32) -> bool {
+    let Some(check) = checks.first() else {
         return false;
     };
-    let Spec::Product { matrix: checked, x } = check.spec else {
+    let Spec::Product { matrix, x } = check.spec else {
         return false;
     };
-    matches!(plan.scheme(node), Scheme::Abft)
+    check.promise == promise && (matrix, x) == product
+}
+
+/// Whether a node is a task with correction and so many checks, whose first step is this product and whose first check is that of
+/// this product on the promise.
+fn is_corrected(plan: &Plan, node: u32, product: (u32, u32), promise: u32, checks: usize) -> bool {
+    node < plan.nodes()
+        && matches!(plan.scheme(node), Scheme::Abft)
         && plan.attempts(node) == 1
         && plan.checks_of(node).len() == checks
-        && check.promise == promise
-        && (*matrix, *v) == product
-        && (checked, x) == product
+        && begin_with_product(plan.body(node).steps(), product)
+        && check_product(plan.checks_of(node), product, promise)
 }
 
 /// The tasks mul and sums: x is the first local of mul, y the second of sums.

@@ -543,21 +543,26 @@ fn is_task(node: &Node, awaits: &[u32], puts: &[u32], steps: usize) -> bool {
         && node.body.steps().len() == steps
 }
 
-/// Whether the steps are those of the second task.
-fn are_steps(steps: &[Step]) -> bool {
-    let [
-        Step::Add { a: 0, b: 0 },
+/// Whether the step puts local 2 into promise 1 on the condition of local 1.
+fn is_put_on_condition(step: &Step) -> bool {
+    matches!(
+        step,
         Step::Put {
             promise: 1,
             local: 2,
             when: Some(1),
-        },
-        Step::DropAwait { promise: 0 },
-    ] = steps
-    else {
+        }
+    )
+}
+
+/// Whether the steps are those of the second task.
+fn are_steps(steps: &[Step]) -> bool {
+    let [add, put, release] = steps else {
         return false;
     };
-    true
+    matches!(add, Step::Add { a: 0, b: 0 })
+        && is_put_on_condition(put)
+        && matches!(release, Step::DropAwait { promise: 0 })
 }
 
 /// Whether the drafts are those of two tasks and three promises.

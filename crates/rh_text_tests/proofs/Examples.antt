@@ -2,9 +2,9 @@
 use Rattle.std.proofs.Common.{◌≡◌, [], ◌∷◌, Some, None, true, false, refl}
 use Rattle.std.specs.Prelude.{codes}
 use Rattle.std.specs.Fmt.{digits}
-use Rattle.rh_words.specs.Text.{words_of, is_printable}
+use Rattle.rh_words.specs.Text.{words_of, is_printable, header_reason}
 use Rattle.rh_words.specs.Values.{line_text, pair_of}
-use Rattle.rh_words.specs.declared.reason.Reason.TheVariants.{Statement as BadStatement, BadName, BadNumber, Count, EndExtra, Limit}
+use Rattle.rh_words.specs.declared.reason.Reason.TheVariants.{Header, Statement as BadStatement, BadName, BadNumber, Count, EndExtra, Limit}
 use Rattle.rh_task_text.specs.LineReasons.{words_reason, statement_reason, kind_chosen}
 use Rattle.rh_task_text.specs.Blocks.{open_blocks}
 use Rattle.rh_task_text.specs.Statements.{said}
@@ -155,6 +155,9 @@ unfolding digits
 a_check_of_the_callers_own = refl
 
 -- lines of one reason
+
+pub a_header_of_another_version : header_reason (codes "rhc 2" ∷ []) ≡ Header
+a_header_of_another_version = refl
 
 pub a_byte_out_of_range : is_printable (102 ∷ 9 ∷ 102 ∷ []) ≡ false
 a_byte_out_of_range = refl

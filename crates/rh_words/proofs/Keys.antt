@@ -87,10 +87,10 @@ begins_byte c h = (grind (arith, nat_tests), grind (arith, nat_tests))
 name_bytes : (n : List ℕ) → is_name n ≡ true → IsNoZero n × (length n ≤ 32)
 name_bytes [] e = cc
 name_bytes (c ∷ cs) e =
-    let a = both (begins_name c && nat_le (length cs) 31) (list_all continues_name cs) e in
-    let b = both (begins_name c) (nat_le (length cs) 31) a.0 in
+    let a = both (begins_name c && nat_le (length (c ∷ cs)) 32) (list_all continues_name cs) e in
+    let b = both (begins_name c) (nat_le (length (c ∷ cs)) 32) a.0 in
     let here = begins_byte c b.0 in
-    let few = leb-true (length cs) 31 b.1 in
+    let few = leb-true (length (c ∷ cs)) 32 b.1 in
     ((here.0, here.1, all_continue cs a.1), omega arith) where
       all_continue : (ds : List ℕ) → list_all continues_name ds ≡ true → IsNoZero ds
       all_continue [] h = tt

@@ -128,8 +128,8 @@ word_of (b ∷ bs) long e = e
 name_word : (n : List ℕ) → is_name n ≡ true → IsWord n
 name_word [] e = cc
 name_word (c ∷ cs) e =
-    let a = both (begins_name c && nat_le (length cs) 31) (list_all continues_name cs) e in
-    let b = both (begins_name c) (nat_le (length cs) 31) a.0 in
+    let a = both (begins_name c && nat_le (length (c ∷ cs)) 32) (list_all continues_name cs) e in
+    let b = both (begins_name c) (nat_le (length (c ∷ cs)) 32) a.0 in
     let here = begins_visible c b.0 in
     let there = all_continue cs a.1 in
     rw (here, there) refl where

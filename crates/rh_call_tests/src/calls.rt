@@ -96,11 +96,23 @@ fn answers_to(
     Ok(answered && store.file("p").unwrap_or(&[]) == program)
 }
 
+/// Whether a call of these words, over such a store and outputs with so much room, answers as it must.
+fn answers_within(
+    alloc: Global,
+    words: &[String],
+    program: &[u8],
+    room: (usize, usize),
+    want: Want<'_>,
+) -> Result<bool, OutOfMemory> {
+    let (out_room, err_room) = room;
+    let mut outputs = Outputs::new(alloc, out_room, err_room)?;
+    answers_to(words, program, &mut outputs, want)
+}
+
 /// Whether the words `run p`, where the file has these bytes, answer as they must.
 pub fn answers(alloc: Global, program: &[u8], want: Want<'_>) -> Result<bool, Fail> {
     let words = strings(alloc, &["run", "p"])?;
-    let mut outputs = Outputs::new(alloc, 4_194_304, 256)?;
-    Ok(answers_to(&words, program, &mut outputs, want)?)
+    Ok(answers_within(alloc, &words, program, (4_194_304, 256), want)?)
 }
 
 /// Whether each program answers as it must.
@@ -259,9 +271,8 @@ fn long_programs_are_refused(rt: HostRuntime) -> Result<(), Fail> {
 /// Whether these words are refused, over a store with a lawful program `p`.
 fn are_bad(alloc: Global, words: &[&str]) -> Result<bool, Fail> {
     let words = strings(alloc, words)?;
-    let mut outputs = Outputs::new(alloc, 256, 256)?;
     let want: Want<'_> = (2, b"", b"rh: bad words\n");
-    Ok(answers_to(&words, CHAIN, &mut outputs, want)?)
+    Ok(answers_within(alloc, &words, CHAIN, (256, 256), want)?)
 }
 
 /// Words that give no command.
@@ -362,8 +373,7 @@ fn nothing_fails_where_nothing_can(rt: HostRuntime) -> Result<(), Fail> {
 /// Whether a run of the empty program, with so much room on the two outputs, answers as it must.
 fn breaks_off(alloc: Global, room: usize, err_room: usize, want: Want<'_>) -> Result<bool, Fail> {
     let words = strings(alloc, &["run", "p"])?;
-    let mut outputs = Outputs::new(alloc, room, err_room)?;
-    Ok(answers_to(&words, b"rhc 1\n", &mut outputs, want)?)
+    Ok(answers_within(alloc, &words, b"rhc 1\n", (room, err_room), want)?)
 }
 
 /// The room on the two outputs, and what is answered: at once, in the middle of the report, and where the message cannot be written, or

@@ -35,12 +35,12 @@ pub fn answers_under(
 ) -> Result<bool, Fail> {
     let mut store = stored_with(alloc, program, faults)?;
     let answered = runs_under(alloc, &mut store, 4096, want)?;
-    Ok(answered && keeps(&store, "p", program) && keeps(&store, "f", faults))
+    Ok(answered && keeps(&store, program, faults))
 }
 
-/// Whether the file has these bytes.
-fn keeps(store: &MemShelf, name: &str, bytes: &[u8]) -> bool {
-    store.file(name).unwrap_or(&[]) == bytes
+/// Whether the store has the program and the fault file as before.
+fn keeps(store: &MemShelf, program: &[u8], faults: &[u8]) -> bool {
+    store.file("p").unwrap_or(&[]) == program && store.file("f").unwrap_or(&[]) == faults
 }
 
 /// A program, its faults, and what is answered: the status, and what `out` takes.

@@ -1,12 +1,12 @@
 //! Reading a fault text.
 
-ghost use Rattle.std.specs.Prelude.{◌≡◌, ◌<◌, ◌≤◌, ◌+◌, ◌-◌, ◌/◌, ◌^◌, ◌∷◌, [], ℕ, List, IfOk, OnOk, length};
+ghost use Rattle.std.specs.Prelude.{◌≡◌, ◌<◌, ◌≤◌, ◌+◌, ◌-◌, ◌/◌, ◌^◌, ◌∷◌, [], ℕ, List, Some, IfOk, OnOk, length};
 ghost use Rattle.rh_words.specs.Text.{lines_of, words_of, is_printable};
-ghost use Rattle.rh_words.specs.Places.{agrees, FitPlaces};
+ghost use Rattle.rh_words.specs.Places.{agrees, places_reason, FitPlaces};
 ghost use Rattle.rh_words.specs.PlaceWalks.{places};
 ghost use Rattle.rh_words.specs.Values.{IsAt};
 ghost use Rattle.rh_words.specs.Refusals.{OnRefused};
-ghost use Rattle.rh_injector.specs.FaultTexts.{first_place, fault_places, said, IsFirstLine, Reads, FirstBad, IsReason, IsLawfulText};
+ghost use Rattle.rh_injector.specs.FaultTexts.{first_place, fault_places, said, SaysFault, IsFirstLine, Reads, FirstBad, IsReason, IsLawfulText};
 ghost use Rattle.rh_injector.specs.ReaderStates.{AddsLine, IsBegun};
 
 use crate::fault_text::{FaultLine, FaultText};
@@ -120,10 +120,7 @@ impl Reader {
         if !begins_fault(line.bytes) {
             return Err(Fault::Refused(Reason::Statement));
         }
-        let _kept = self
-            .values
-            .read(fault_places(), FAULT_PLACES.len(), line.bytes)?;
-        let fault = fault_of(number, self.values.as_slice());
+        let fault = read_fault(&mut self.values, number, line.bytes)?;
         self.faults.push(fault)?;
         Ok(())
     }
@@ -142,6 +139,15 @@ fn begins_fault(line: &[u8]) -> bool
     ensures { result ≡ agrees first_place (words_of line.now) }
 {
     agrees(&[Place::WordPlace(Keyword::FaultWord)], LineWords::of(line))
+}
+
+/// Reads the words of the line of a fault.
+fn read_fault(values: &mut LineValues, number: u32, line: &[u8]) -> Result<FaultLine, Fault<Reason>>
+    ensures ok { IfOk result (λ fault. SaysFault number line.now fault) }
+    ensures refused { OnRefused result (λ reason. places_reason fault_places [] [] (words_of line.now) ≡ Some reason) }
+{
+    let _kept = values.read(fault_places(), FAULT_PLACES.len(), line)?;
+    Ok(fault_of(number, values.as_slice()))
 }
 
 /// The places of the words of a line.

@@ -1,7 +1,7 @@
 //! The names and promises that the lines above declare.
 
 ghost use Rattle.std.specs.Prelude.{◌≡◌, ◌<◌, ◌≤◌, ◌++◌, ◌∷◌, [], List, ℕ, Some, None, IfOk, OnOk, OnErr, IfSome, length, true, false, not, cond, ◌&&◌};
-ghost use Rattle.rh_words.specs.declared.limits.TheConstants.{MAX_PROMISE_WORDS};
+ghost use Rattle.rh_words.specs.declared.limits.TheConstants.{MAX_PROMISE_WORDS, MAX_PROMISES};
 ghost use Rattle.rh_words.specs.NameKeys.{name_key};
 ghost use Rattle.rh_rules.specs.Tables.{declared_promise, putting, is_among, promise_at, is_put};
 ghost use Rattle.rh_rules.specs.Rules.{is_promise_over};
@@ -140,18 +140,20 @@ impl Declared {
     {
         keys_tell_names_apart();
         let _is_name = name.bytes();
-        let number = self.promises.len() as u32;
-        self.promises.push(PlannedPromise {
+        let promise = PlannedPromise {
             name,
             len,
             putter: None,
             temp,
             scope,
-        })?;
-        if let Err(fault) = note(&mut self.names, &mut self.known, name, key, Some(number)) {
-            self.promises.pop();
-            return Err(fault);
-        }
+        };
+        note_promise(
+            &mut self.promises,
+            &mut self.names,
+            &mut self.known,
+            promise,
+            key,
+        )?;
         self.words += u64::from(len);
         self.shown += shown_words(len, temp, scope);
         Ok(())
@@ -182,6 +184,35 @@ fn shown_words(len: u32, temp: bool, scope: bool) -> u64
     ensures { result ≡ cond (not temp && not scope) len 0 }
 {
     if temp || scope { 0 } else { u64::from(len) }
+}
+
+/// Adds a promise and its name, which has the number of the promise then.
+fn note_promise(
+    promises: &mut Vec<PlannedPromise>,
+    names: &mut Vec<Name>,
+    known: &mut HashMap<NameKey, Option<u32>>,
+    promise: PlannedPromise,
+    key: NameKey,
+) -> Result<(), OutOfMemory>
+    requires key { key ≡ name_key promise.name }
+    requires few { length promises.old.items < MAX_PROMISES }
+    ensures promises { OnOk result (promises.new.items ≡ promises.old.items ++ promise ∷ []) }
+    ensures names { OnOk result (names.new.items ≡ names.old.items ++ promise.name ∷ []) }
+    ensures noted { OnOk result (IsNoted known.old known.new promise.name (Some (length promises.old.items))) }
+    ensures promises_kept { OnErr result (promises.new.items ≡ promises.old.items) }
+    ensures names_kept { OnErr result (names.new.items ≡ names.old.items) }
+    ensures known_kept { OnErr result (known.new.entries ≡ known.old.entries) }
+{
+    let number = promises.len() as u32;
+    let name = promise.name;
+    promises.push(promise)?;
+    match note(names, known, name, key, Some(number)) {
+        Ok(()) => Ok(()),
+        Err(OutOfMemory) => {
+            promises.pop();
+            Err(OutOfMemory)
+        }
+    }
 }
 
 /// Adds a name with its number, which is found by the key of the name.

@@ -12,7 +12,7 @@ use Rattle.rh_rules.specs.declared.node.Node.{Node}
 use Rattle.rh_rules.specs.declared.node.PlannedPromise.{PlannedPromise}
 use Rattle.rh_rules.specs.Kept.{KeptCheck}
 use Rattle.rh_rules.specs.Tables.{promise_number}
-use Rattle.rh_rules.specs.Facets.{Turn, Opens, Closes, Stays, facets}
+use Rattle.rh_rules.specs.Facets.{Turn, Opens, Closes, Stays, turn, facets}
 use Rattle.rh_rules.specs.declared.block.OpenBlock.{OpenBlock}
 use Rattle.rh_rules.specs.declared.block.OpenBlock.TheVariants.{TaskBlock, MatrixBlock, GroupBlock, ScopeBlock}
 use Rattle.rh_rules.specs.Above.{Look, Facts, checks_above, checks_by, check_of, spec_asked, promises_above, matrices_above, locals_above, nodes_above, nodes_by, ended_node, facts_with}
@@ -36,7 +36,7 @@ kept_line look number spec (Some q) = (refl, tt)
 
 kept_checks : (look : Look) (above : List Statement) → AreKept look (checks_above look above)
 kept_checks look [] = tt
-kept_checks look (s ∷ above) = by_turn (kept_checks look above) (facets s).turn
+kept_checks look (s ∷ above) = by_turn (kept_checks look above) (turn s)
   where
     by_turn : AreKept look (checks_above look above) → (t : Turn) → AreKept look (elim t [ Opens ↦ [] | Closes ↦ [] | Stays ↦ checks_above look above ++ checks_by look (promises_above above) (matrices_above above) (locals_above look above) s ])
     by_turn kept Opens = tt

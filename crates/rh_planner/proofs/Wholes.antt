@@ -7,7 +7,7 @@ use Rattle.rh_task_text.specs.declared.statement.Statement.TheVariants as text
 use Rattle.rh_task_text.specs.declared.statement.Item.{Item}
 use Rattle.rh_task_text.specs.Program.{upward}
 use Rattle.rh_check.specs.Users.{HandedChecks}
-use Rattle.rh_rules.specs.Facets.{Turn, Opens, Closes, Stays, facets}
+use Rattle.rh_rules.specs.Facets.{Turn, Opens, Closes, Stays, turn}
 use Rattle.rh_rules.specs.declared.block.OpenBlock.{OpenBlock}
 use Rattle.rh_rules.specs.Above.{Look, opened, block_of, opening_block, nodes_counted, adds_nodes, ends_opened, ended_node, nodes_by, blocks_above, Facts, facts_above}
 use Rattle.rh_rules.specs.Rules.{reason_in, reason_at}
@@ -41,7 +41,7 @@ adds look f o s same = refl
 -- one more statement adds to the facts above what it adds
 pub facts_next : (look : Look) (above : List Statement) (s : Statement) → facts_above look (s ∷ above) ≡ after look (facts_above look above) s
 facts_next look above s =
-    let blocks = blocks_turned above s (facets s).turn in
+    let blocks = blocks_turned above s (turn s) in
     let count : nodes_counted above + adds_nodes (opened above) s ≡ nodes_counted above + length (nodes_by look (facts_above look above) s) =
     ap (λ (n : ℕ). nodes_counted above + n) (adds look (facts_above look above) (opened above) s refl) in
     ap (λ (b : List OpenBlock). record (facts_above look (s ∷ above)) { blocks = b }) blocks

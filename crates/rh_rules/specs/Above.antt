@@ -23,7 +23,7 @@ use Rattle.rh_rules.specs.declared.shape.Shape.{Shape}
 use Rattle.rh_rules.specs.declared.shape.NamedShape.{NamedShape}
 use Rattle.rh_rules.specs.Bodies.{promises_put}
 use Rattle.rh_rules.specs.Tables.{LocalName, local, Putting, putting, put_all, number_of, lens_of, promise_number, promise_len, matrix_number, matrix_shape, no_shape}
-use Rattle.rh_rules.specs.Facets.{Opens, Closes, Stays, facets}
+use Rattle.rh_rules.specs.Facets.{OpensMatrix, OpensTask, OpensScope, OpensGroup, ClosesBlock, WithinBlock, block_line, Opens, Closes, Stays, turn, facets}
 use Rattle.rh_rules.specs.Kept.{KeptCheck}
 
 -- What a line looks at beside those above it: an await list at the promises of the whole text where it may point forward, a check at the
@@ -51,18 +51,22 @@ shown_in ps = sum (map (λ p. cond (not p.temp && not p.scope) p.len 0) ps)
 -- The open blocks, the innermost first, each as its opening line with the lines above that.
 abbrev pub opened : List Statement → List (List Statement)
 opened [] = []
-opened (s ∷ above) = elim ((facets s).turn) [
+opened (s ∷ above) = elim (turn s) [
   | Opens ↦ (s ∷ above) ∷ opened above
   | Closes ↦ drop 1 (opened above)
   | Stays ↦ opened above
 ]
 
--- the block that a line opens, below so many nodes
+-- the block that an opening line opens, below so many nodes
 abbrev pub opening_block : ℕ → Statement → OpenBlock
-opening_block count (text.Task name scheme awaits) = TaskBlock name
-opening_block count (text.Finish name) = ScopeBlock name count
-opening_block count (text.Group name awaits) = GroupBlock count
-opening_block count s = MatrixBlock
+opening_block count s = elim (block_line s) [
+  | OpensMatrix ↦ MatrixBlock
+  | OpensTask name ↦ TaskBlock name
+  | OpensScope name ↦ ScopeBlock name count
+  | OpensGroup name awaits ↦ GroupBlock count
+  | ClosesBlock ↦ MatrixBlock
+  | WithinBlock ↦ MatrixBlock
+]
 
 -- an `end` of this block is the line of a node: a task has its line at its opening, but no other node's line stands in it
 abbrev pub ends_node : OpenBlock → ℕ
@@ -79,9 +83,14 @@ ends_opened ((s ∷ up) ∷ outer) = ends_node (opening_block 0 s)
 
 -- how many nodes a line adds, below these open blocks
 abbrev pub adds_nodes : List (List Statement) → Statement → ℕ
-adds_nodes around (text.Group name awaits) = 1
-adds_nodes around text.End = ends_opened around
-adds_nodes around s = 0
+adds_nodes around s = elim (block_line s) [
+  | OpensMatrix ↦ 0
+  | OpensTask name ↦ 0
+  | OpensScope name ↦ 0
+  | OpensGroup name awaits ↦ 1
+  | ClosesBlock ↦ ends_opened around
+  | WithinBlock ↦ 0
+]
 
 -- how many nodes the lines have
 abbrev pub nodes_counted : List Statement → ℕ
@@ -106,13 +115,19 @@ group_in (MatrixBlock ∷ outer) = group_in outer
 
 -- the promise that the `end` of this block puts
 abbrev pub put_at_end : ℕ → List OpenBlock → List Putting
+put_at_end count [] = []
+put_at_end count (TaskBlock name ∷ outer) = []
 put_at_end count (ScopeBlock name first ∷ outer) = putting name count ∷ []
-put_at_end count outer = []
+put_at_end count (GroupBlock number ∷ outer) = []
+put_at_end count (MatrixBlock ∷ outer) = []
 
 -- the promises that a line puts, the next node having this number
 abbrev pub puts_by : ℕ → List OpenBlock → Statement → List Putting
-puts_by count around text.End = put_at_end count around
-puts_by count around s = map (λ q. putting q count) (option_to_list (facets s).put_to)
+puts_by count around s = elim (turn s) [
+  | Opens ↦ []
+  | Closes ↦ put_at_end count around
+  | Stays ↦ map (λ q. putting q count) (option_to_list (facets s).put_to)
+]
 
 -- The promises, in the order of their `promise` and `finish` lines, each with the node of the line that puts it. A promise's number is its place.
 abbrev pub promises_above : List Statement → List PlannedPromise
@@ -136,7 +151,7 @@ with_row (Some row) a = matrix_data a.cols (a.rows ++ row ∷ [])
 -- the open matrix, with the rows that it has so far
 abbrev pub begun_above : List Statement → Option MatrixData
 begun_above [] = None
-begun_above (s ∷ above) = elim ((facets s).turn) [
+begun_above (s ∷ above) = elim (turn s) [
   | Opens ↦ option_map no_rows (facets s).shaped
   | Closes ↦ None
   | Stays ↦ option_map (with_row (facets s).row) (begun_above above)
@@ -144,7 +159,7 @@ begun_above (s ∷ above) = elim ((facets s).turn) [
 
 -- the matrix that a line closes, where this one is open
 abbrev pub closed_by : Option MatrixData → Statement → List MatrixData
-closed_by begun s = elim ((facets s).turn) [
+closed_by begun s = elim (turn s) [
   | Opens ↦ []
   | Closes ↦ option_to_list begun
   | Stays ↦ []
@@ -188,7 +203,7 @@ await_local ps name = local name (promise_len ps name)
 -- The locals of the open task: its awaited promises, then the results of its `let` lines. A local's number is its place.
 abbrev pub locals_above : Look → List Statement → List LocalName
 locals_above look [] = []
-locals_above look (s ∷ above) = elim ((facets s).turn) [
+locals_above look (s ∷ above) = elim (turn s) [
   | Opens ↦ map (await_local (seen look (promises_above above))) (facets s).task_awaits
   | Closes ↦ []
   | Stays ↦ locals_above look above ++ local_made (matrices_above above) (locals_above look above) s
@@ -197,7 +212,7 @@ locals_above look (s ∷ above) = elim ((facets s).turn) [
 -- the numbers of the promises that the open task awaits
 abbrev pub inputs_above : Look → List Statement → List ℕ
 inputs_above look [] = []
-inputs_above look (s ∷ above) = elim ((facets s).turn) [
+inputs_above look (s ∷ above) = elim (turn s) [
   | Opens ↦ map (promise_number (seen look (promises_above above))) (facets s).task_awaits
   | Closes ↦ []
   | Stays ↦ inputs_above look above
@@ -206,7 +221,7 @@ inputs_above look (s ∷ above) = elim ((facets s).turn) [
 -- the numbers of the locals that the open task drops
 abbrev pub drops_above : Look → List Statement → List ℕ
 drops_above look [] = []
-drops_above look (s ∷ above) = elim ((facets s).turn) [
+drops_above look (s ∷ above) = elim (turn s) [
   | Opens ↦ []
   | Closes ↦ []
   | Stays ↦ drops_above look above ++ map (number_of (locals_above look above)) (option_to_list (facets s).dropped)
@@ -225,7 +240,7 @@ scheme_opened s = planned_scheme (unwrap_or (facets s).scheme texts.Plain)
 -- the scheme of the open task
 abbrev pub scheme_above : List Statement → Scheme
 scheme_above [] = schemes.Plain
-scheme_above (s ∷ above) = elim ((facets s).turn) [
+scheme_above (s ∷ above) = elim (turn s) [
   | Opens ↦ scheme_opened s
   | Closes ↦ schemes.Plain
   | Stays ↦ scheme_above above
@@ -250,7 +265,7 @@ checks_by look ps ms ls s = map (λ q. check_of look.handed (promise_number ps q
 -- the checks of the open task
 abbrev pub checks_above : Look → List Statement → List KeptCheck
 checks_above look [] = []
-checks_above look (s ∷ above) = elim ((facets s).turn) [
+checks_above look (s ∷ above) = elim (turn s) [
   | Opens ↦ []
   | Closes ↦ []
   | Stays ↦ checks_above look above ++ checks_by look (promises_above above) (matrices_above above) (locals_above look above) s
@@ -274,7 +289,7 @@ steps_by ps ms inputs ls s =
 -- the steps of the open task
 abbrev pub steps_above : Look → List Statement → List Step
 steps_above look [] = []
-steps_above look (s ∷ above) = elim ((facets s).turn) [
+steps_above look (s ∷ above) = elim (turn s) [
   | Opens ↦ []
   | Closes ↦ []
   | Stays ↦ steps_above look above ++ steps_by (promises_above above) (matrices_above above) (inputs_above look above) (locals_above look above) s
@@ -326,9 +341,14 @@ ended_node f (MatrixBlock ∷ outer) = []
 
 -- the nodes that a line adds
 abbrev pub nodes_by : Look → Facts → Statement → List Node
-nodes_by look f (text.Group name awaits) = group_node name (map (promise_number (seen look f.promises)) awaits) (group_in f.blocks) ∷ []
-nodes_by look f text.End = ended_node f f.blocks
-nodes_by look f s = []
+nodes_by look f s = elim (block_line s) [
+  | OpensMatrix ↦ []
+  | OpensTask name ↦ []
+  | OpensScope name ↦ []
+  | OpensGroup name awaits ↦ group_node name (map (promise_number (seen look f.promises)) awaits) (group_in f.blocks) ∷ []
+  | ClosesBlock ↦ ended_node f f.blocks
+  | WithinBlock ↦ []
+]
 
 -- what is said but for the nodes
 abbrev pub facts_with : Look → List Statement → List Node → Facts

@@ -16,14 +16,66 @@ use Rattle.rh_rules.specs.declared.shape.Shape.{Shape}
 use Rattle.rh_rules.specs.declared.shape.NamedShape.{NamedShape}
 use Rattle.rh_rules.specs.Tables.{declared_promise, named_shape}
 
--- how a statement changes the block that is open
+-- which block a line opens, or that it closes the innermost
+pub data BlockLine : Type 0 where
+  OpensMatrix : BlockLine
+  OpensTask : List ℕ → BlockLine
+  OpensScope : List ℕ → BlockLine
+  OpensGroup : List ℕ → List (List ℕ) → BlockLine
+  ClosesBlock : BlockLine
+  WithinBlock : BlockLine
+
+-- the same of each form
+abbrev pub block_line : Statement → BlockLine
+block_line (text.Promise name len temp) = WithinBlock
+block_line (text.Matrix name rows cols) = OpensMatrix
+block_line (text.Row columns values) = WithinBlock
+block_line (text.Task name scheme awaits) = OpensTask name
+block_line (text.Finish name) = OpensScope name
+block_line (text.Group name awaits) = OpensGroup name awaits
+block_line text.End = ClosesBlock
+block_line (text.LetLit x words) = WithinBlock
+block_line (text.LetGen x n start limit) = WithinBlock
+block_line (text.LetAdd x a b) = WithinBlock
+block_line (text.LetSub x a b) = WithinBlock
+block_line (text.LetMul x a b) = WithinBlock
+block_line (text.LetScale x a k) = WithinBlock
+block_line (text.LetShift x a s) = WithinBlock
+block_line (text.LetCut x a from len) = WithinBlock
+block_line (text.LetJoin x parts) = WithinBlock
+block_line (text.LetSum x a) = WithinBlock
+block_line (text.LetCount x a) = WithinBlock
+block_line (text.LetStencil1 x l m r k s) = WithinBlock
+block_line (text.LetStencil2 x north south west east m cols k s) = WithinBlock
+block_line (text.LetProduct x a v) = WithinBlock
+block_line (text.Put promise local when) = WithinBlock
+block_line (text.DropAwait promise) = WithinBlock
+block_line (text.CheckRange promise lo hi) = WithinBlock
+block_line (text.CheckTotal promise total) = WithinBlock
+block_line (text.CheckLinear promise base inputs factors) = WithinBlock
+block_line (text.CheckConserve promise l m r k s) = WithinBlock
+block_line (text.CheckConserve2 promise north south west east m cols k s) = WithinBlock
+block_line (text.CheckProduct promise a q) = WithinBlock
+block_line (text.CheckUser promise check) = WithinBlock
+
+-- how a statement changes which blocks are open
 pub data Turn : Type 0 where
   Opens : Turn
   Closes : Turn
   Stays : Turn
 
+abbrev pub turn_by : BlockLine → Turn
+turn_by OpensMatrix = Opens
+turn_by (OpensTask name) = Opens
+turn_by (OpensScope name) = Opens
+turn_by (OpensGroup name awaits) = Opens
+turn_by ClosesBlock = Closes
+turn_by WithinBlock = Stays
+
+abbrev pub turn : Statement → Turn
+turn s = turn_by (block_line s)
+
 pub record Facets : Type 0 where
-  pub turn : Turn
   -- the name that it declares: of a promise, matrix, task, group or scope
   pub declared : Option (List ℕ)
   -- the promise that it declares: a scope has one of three words
@@ -66,7 +118,6 @@ asks_nothing ns = specs.Total 0
 
 abbrev pub nothing : Facets
 nothing = record {
-  turn = Stays;
   declared = None;
   promised = None;
   shaped = None;
@@ -154,12 +205,12 @@ cells_of (j ∷ columns) (v ∷ values) = cell j v ∷ cells_of columns values
 
 unfoldable pub facets : Statement → Facets
 facets (text.Promise name len temp) = record nothing { declared = Some name; promised = Some (declared_promise name len temp false) }
-facets (text.Matrix name rows cols) = record nothing { turn = Opens; declared = Some name; shaped = Some (named_shape name rows cols) }
+facets (text.Matrix name rows cols) = record nothing { declared = Some name; shaped = Some (named_shape name rows cols) }
 facets (text.Row columns values) = record nothing { row = Some (cells_of columns values) }
-facets (text.Task name scheme awaits) = record nothing { turn = Opens; declared = Some name; awaited = awaits; task_awaits = awaits; scheme = Some scheme }
-facets (text.Finish name) = record nothing { turn = Opens; declared = Some name; promised = Some (declared_promise name SCOPE_WORDS false true) }
-facets (text.Group name awaits) = record nothing { turn = Opens; declared = Some name; awaited = awaits }
-facets text.End = record nothing { turn = Closes }
+facets (text.Task name scheme awaits) = record nothing { declared = Some name; awaited = awaits; task_awaits = awaits; scheme = Some scheme }
+facets (text.Finish name) = record nothing { declared = Some name; promised = Some (declared_promise name SCOPE_WORDS false true) }
+facets (text.Group name awaits) = record nothing { declared = Some name; awaited = awaits }
+facets text.End = nothing
 facets (text.LetLit x words) = makes x [] always (λ ls. length words) (λ ns. steps.Lit words)
 facets (text.LetGen x n start limit) = makes x [] always (λ ls. n) (λ ns. steps.Gen n start limit)
 facets (text.LetAdd x a b) = makes x (a ∷ b ∷ []) are_equal first (λ ns. steps.Add (first ns) (second ns))

@@ -13,10 +13,10 @@ use Rattle.rh_rules.specs.declared.node.PlannedPromise.{PlannedPromise}
 use Rattle.rh_rules.specs.declared.node.Scheme.{Scheme}
 use Rattle.rh_rules.specs.declared.node.Scheme.TheVariants as schemes
 use Rattle.rh_rules.specs.Tables.{LocalName, if_any, is_among, is_in, place_of, is_local, is_promise, promise_number, promise_len, is_put, is_own, is_matrix}
-use Rattle.rh_rules.specs.Facets.{Turn, Opens, Closes, Stays, facets}
+use Rattle.rh_rules.specs.Facets.{OpensMatrix, OpensTask, OpensScope, OpensGroup, ClosesBlock, WithinBlock, block_line, Turn, Opens, Closes, Stays, turn, facets}
 use Rattle.rh_rules.specs.Bodies.{promises_put}
 use Rattle.rh_rules.specs.declared.block.OpenBlock.{OpenBlock}
-use Rattle.rh_rules.specs.declared.block.OpenBlock.TheVariants.{ScopeBlock}
+use Rattle.rh_rules.specs.declared.block.OpenBlock.TheVariants.{TaskBlock, MatrixBlock, GroupBlock, ScopeBlock}
 use Rattle.rh_rules.specs.Lawful.{is_product, has_product}
 use Rattle.rh_rules.specs.Above.{Look, seen, Facts, facts_above, words_in, shown_in, shape_used, lens_used, lens_read, made_len}
 
@@ -110,7 +110,7 @@ is_second_product f s = asks_product s && (is_corrected f.scheme && has_product 
 
 -- the end of a task with correction that has no check of a product
 abbrev pub ends_uncorrected : Facts → Statement → Bool
-ends_uncorrected f s = is_closing (facets s).turn && (is_corrected f.scheme && not (has_product f.checks))
+ends_uncorrected f s = is_closing (turn s) && (is_corrected f.scheme && not (has_product f.checks))
 
 -- Scheme: the scheme of a task is none, or has no checks, or does not have one check of a product where it corrects one.
 abbrev pub is_misschemed : Facts → Statement → Bool
@@ -123,12 +123,24 @@ is_after_drop f s =
     || list_any (is_dropped f) (facets s).inputs
     || list_any (is_dropped f) (facets s).used
 
+-- the innermost open block is a scope
+abbrev pub is_in_scope : List OpenBlock → Bool
+is_in_scope [] = false
+is_in_scope (TaskBlock name ∷ outer) = false
+is_in_scope (ScopeBlock name first ∷ outer) = true
+is_in_scope (GroupBlock number ∷ outer) = false
+is_in_scope (MatrixBlock ∷ outer) = false
+
 -- the line is that of a node: the opening line of a task or a group, the `end` of a scope
 abbrev pub is_node_line : List OpenBlock → Statement → Bool
-is_node_line around (text.Task name scheme awaits) = true
-is_node_line around (text.Group name awaits) = true
-is_node_line (ScopeBlock name first ∷ outer) text.End = true
-is_node_line around s = false
+is_node_line around s = elim (block_line s) [
+  | OpensMatrix ↦ false
+  | OpensTask name ↦ true
+  | OpensScope name ↦ false
+  | OpensGroup name awaits ↦ true
+  | ClosesBlock ↦ is_in_scope around
+  | WithinBlock ↦ false
+]
 
 -- one more promise goes beyond a limit
 abbrev pub is_promise_over : List PlannedPromise → PlannedPromise → Bool

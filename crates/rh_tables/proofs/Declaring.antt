@@ -114,6 +114,13 @@ neither : (a b : Bool) → (a || b) ≡ false → (a ≡ false) × (b ≡ false)
 neither true b e = absurd (false≢true (sym e))
 neither false b e = (refl, e)
 
+-- where one more promise is not over a limit, there are fewer than the most
+pub room_left : (promises : List PlannedPromise) (p : PlannedPromise) → is_promise_over promises p ≡ false → length promises < 16384
+room_left promises p room =
+    let (first, third) = neither (nat_le 16384 (length promises) || nat_lt 16777216 (words_in promises + p.len)) (nat_lt 1048576 (shown_in promises + shown_in (p ∷ []))) room in
+    let (one, two) = neither (nat_le 16384 (length promises)) (nat_lt 16777216 (words_in promises + p.len)) first in
+    grind (arith, nat_tests)
+
 pub promise_found : KeysTellNames → {S : Type 0} (old new : Known S) (names : List (List ℕ)) (promises : List PlannedPromise) (w s : ℕ) (p : PlannedPromise) → is_name p.name ≡ true → AreFound old names promises w s → is_among p.name names ≡ false
     → IsNoted old new p.name (Some (length promises)) → is_promise_over promises p ≡ false
     → AreFound new (names ++ p.name ∷ []) (promises ++ p ∷ []) (w + p.len) (s + cond (not p.temp && not p.scope) p.len 0)

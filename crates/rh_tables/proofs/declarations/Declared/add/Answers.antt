@@ -3,8 +3,13 @@ use Rattle.rh_words.specs.Naming.{is_name}
 use Rattle.rh_tables.specs.Declarations.{Declarations}
 use Rattle.rh_rules.specs.Tables.{is_among, declared_promise}
 use Rattle.rh_rules.specs.Rules.{is_promise_over}
-use Rattle.rh_tables.proofs.Declaring.{promise_found, same_found}
+use Rattle.rh_tables.proofs.Declaring.{promise_found, same_found, room_left}
 use Rattle.rh_tables.proofs.declarations.Declared.add.Goals as goal
+
+pub note_promise-requires-clause-few : goal.note_promise-requires-clause-few
+note_promise-requires-clause-few c =
+    let p = declared_promise c.args.name c.args.len c.args.temp c.args.scope in
+    room_left c.self.inside.promises.items p (ap (λ (t : Declarations). is_promise_over t.promises p) c.self.view_is ∙ c.requires.room)
 
 pub invariant_of-self : goal.invariant_of-self
 invariant_of-self c =
